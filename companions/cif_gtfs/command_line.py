@@ -2,28 +2,26 @@
 from __future__ import annotations
 
 import argparse
-import gc
-import os
 import sys
-from pathlib import Path
 from typing import Optional, Sequence
 
 from cif_shared.arguments import add_cif, add_help, add_names, add_window, new_parser
 from cif_shared.cif import find_cif
-from cif_shared.csv_files import MOST_BYTES, Mistake, mail_address, plain_text, read_file
-from cif_shared.csv_files import web_address
+from cif_shared.csv_files import Mistake, mail_address, name_of_publisher, read_file
+from cif_shared.csv_files import shown, web_address
 from cif_shared.endings import SUCCESS, Misused
-from cif_shared.files import output_path
+from cif_shared.files import check_inputs_stay, output_path
 from cif_shared.operators import read_operators
 from cif_shared.places import PLACES
 from cif_shared.progress import Progress
-from cif_shared.running import run
+from cif_shared.running import leave_cycles, run
 from cif_shared.tables import open_extract
 
 from .conversion import Outputs, UserFiles, Wishes, convert
 from .feed import Publisher
 from .trains import EXTENDED_TYPES, TYPES
 from .user_files import INTERCHANGE, LINKS
+from .wanted import list_beside
 
 PROGRAM = "cif-gtfs"
 # The status of a feed with places that have no coordinates.
@@ -88,32 +86,21 @@ def arguments_of(words: Optional[Sequence[str]]) -> argparse.Namespace:
 def outputs_of(asked: argparse.Namespace) -> Outputs:
     """The places of the outputs. One in the place of an input is refused."""
     feed = output_path(asked.output)
-    wanted = Path(asked.output).parent / "places-wanted.csv"
+    wanted = list_beside(asked.output)
     trips = output_path(asked.trips) if asked.trips is not None else None
-    outputs = [place for place in (feed, wanted, trips) if place]
-    inputs = (asked.extract, asked.places, asked.operators, asked.interchange, asked.links)
-    for name in (each for each in inputs if each):
-        for output in outputs:
-            if output.exists() and os.path.exists(name) and output.samefile(name):
-                raise Misused(f"{output} would take the place of an input: rename one of them")
-    if len({place.resolve() for place in outputs}) < len(outputs):
+    outputs = [place for place in (feed, wanted.place, trips) if place]
+    others = (asked.places, asked.operators, asked.interchange, asked.links)
+    check_inputs_stay(outputs, [asked.extract], others)
+    if len(set(outputs)) < len(outputs):
         raise Misused("two outputs have one place")
-    if wanted.exists() and not is_unfilled(wanted):
-        raise Misused(f"{wanted} has been filled in: rename it, and give it by --places")
+    wanted.check()
     return Outputs(feed, wanted, trips)
-
-
-def is_unfilled(path: Path) -> bool:
-    """Whether a list of places without coordinates is as it was written."""
-    with open(path, "rb") as file:
-        lines = file.read(MOST_BYTES).splitlines()
-    return all(line.endswith(b",,") for line in lines[1:])
 
 
 def publisher_of(asked: argparse.Namespace) -> Publisher:
     """Who answers for the feed, as the user says."""
     for option, value, read in (
-        ("--publisher", asked.publisher, plain_text),
+        ("--publisher", asked.publisher, name_of_publisher),
         ("--url", asked.url, web_address),
         ("--email", asked.email, mail_address),
     ):
@@ -121,7 +108,7 @@ def publisher_of(asked: argparse.Namespace) -> Publisher:
             if value is not None:
                 read(value)
         except Mistake as mistake:
-            raise Misused(f"{option} `{value}` {mistake}") from None
+            raise Misused(f"{option} {shown(value)} {mistake}") from None
     return Publisher(asked.publisher or PUBLISHER, asked.url or NO_WEB, asked.email or "")
 
 
@@ -143,13 +130,12 @@ def make_feed(asked: argparse.Namespace, progress: Progress) -> int:
         print(f"{PROGRAM}: {line}", file=sys.stderr)
     if not outcome.wanted:
         return SUCCESS
-    wanted = f"places without coordinates: {outcome.wanted}, listed in {outputs.wanted}"
+    wanted = f"places without coordinates: {outcome.wanted}, listed in {outputs.wanted.name}"
     print(f"{PROGRAM}: {wanted}", file=sys.stderr)
     return WANTING
 
 
 def main(words: Optional[Sequence[str]] = None) -> int:
     asked = arguments_of(words)
-    # nothing that is kept has cycles, and looking for them takes a tenth of the time
-    gc.disable()
+    leave_cycles()
     return run(PROGRAM, lambda progress: make_feed(asked, progress))

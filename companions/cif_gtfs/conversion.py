@@ -18,13 +18,13 @@ from typing import (
     Optional,
     Sequence,
     Set,
+    Tuple,
 )
-from typing import Tuple
 
 from cif_shared.csv_files import Key
 from cif_shared.dates import Dates, Window
 from cif_shared.endings import Refused
-from cif_shared.files import BLOCK, NewFiles, new_files, scratch_file
+from cif_shared.files import BLOCK, new_files, scratch_file
 from cif_shared.operators import OperatorRow
 from cif_shared.places import PlaceRow, Places
 from cif_shared.progress import Progress
@@ -42,6 +42,7 @@ from .stops import Stops
 from .trains import Kind, PublicTrain, Record, ScheduleReader
 from .trips import Assembly, Link, TripsOfUid, add_records, plain_trips
 from .user_files import InterchangeRow, LinkRow
+from .wanted import ListPlace, wanted_rows, write_wanted
 
 
 class UserFiles(NamedTuple):
@@ -58,7 +59,7 @@ class Outputs(NamedTuple):
     and the schedules of trips, if these are asked for."""
 
     feed: Path
-    wanted: Path
+    wanted: ListPlace
     trips: Optional[Path]
 
 
@@ -312,21 +313,6 @@ class Outcome(NamedTuple):
 
     wanted: int
     left_out: LeftOutCounts
-
-
-def wanted_rows(stops: Stops) -> List[feed.Row]:
-    """The TIPLOCs without coordinates, as a file of places that is ready to fill in."""
-    names = stops.places.station_name
-    return [(each.name, names(each.name), "", "") for each in stops.without_coordinates()]
-
-
-def write_wanted(rows: List[feed.Row], path: Path, files: NewFiles) -> None:
-    """Writes the list of places without coordinates, or removes an older one."""
-    if rows:
-        heading = ("tiploc", "name", "latitude", "longitude")
-        files.create(path).write(feed.csv_of([heading, *rows]))
-    else:
-        files.remove(path)
 
 
 def convert(

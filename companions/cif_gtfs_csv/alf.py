@@ -5,6 +5,8 @@ from __future__ import annotations
 import re
 from typing import Dict, List, Tuple
 
+from cif_shared.endings import Refused
+
 from .public_file import Row, lines_of, refusal
 
 COMMENT = "/!!"
@@ -30,6 +32,8 @@ def links(path: str) -> List[Row]:
         ends = (fields["O"], fields["D"])
         if ends[0] != ends[1]:
             found[ends] = max(int(fields["T"]), found.get(ends, 0))
+    if not found:
+        raise Refused(f"{path}: this is no ALF: it has no link")
     back = {(end, start): time for (start, end), time in found.items()}
     both = {**back, **found}
     return [("from", "to", "minutes"), *((*ends, both[ends]) for ends in sorted(both))]

@@ -4,12 +4,14 @@ from __future__ import annotations
 import re
 from typing import Dict, Iterator, List, NamedTuple, Tuple
 
+from cif_shared.endings import Refused
 from cif_shared.places import in_small_letters
 
 from .grid import latitude_and_longitude
-from .public_file import PLACES, Row, lines_of, refusal
+from .public_file import PLACES, Row, checked_text, lines_of, refusal
 
 CRS = re.compile(r"[A-Z0-9]{3}")
+RECORD_OR_COMMENT = re.compile(r"A    |[B-Z ]|/!!|$")
 # The grid's hundreds of metres stand after these digits.
 EASTING = "1"
 NORTHING = "6"
@@ -35,13 +37,15 @@ COLUMNS = ((6, 35), (37, 43), (44, 46), (53, 57), (59, 63), (64, 65))
 def stations(path: str) -> Iterator[Station]:
     heading = True
     for number, line in lines_of(path):
+        if not RECORD_OR_COMMENT.match(line):
+            raise refusal(path, number, "no record of MSN begins so")
         if line.startswith("A"):
             if not heading:
                 fields = (line[first - 1 : last].strip() for first, last in COLUMNS)
                 yield Station(number, *fields)
             heading = False
-        elif not re.match(r"[A-Z ]|/!!|$", line):
-            raise refusal(path, number, "no record of MSN begins so")
+    if heading:
+        raise Refused(f"{path}: this is no MSN: it has no record A")
 
 
 def metres(path: str, line: int, field: str, value: str, first: str) -> int:
@@ -66,8 +70,9 @@ def places(path: str) -> List[Row]:
     for station in stations(path):
         if not station.tiploc:
             raise refusal(path, station.line, "the TIPLOC is missing")
-        row = (station.tiploc, in_small_letters(station.name), *coordinates(path, station))
-        found.setdefault(station.tiploc, row)
+        tiploc = checked_text(path, station.line, "TIPLOC", station.tiploc)
+        name = in_small_letters(checked_text(path, station.line, "name", station.name))
+        found.setdefault(tiploc, (tiploc, name, *coordinates(path, station)))
     return [PLACES, *(found[tiploc] for tiploc in sorted(found))]
 
 

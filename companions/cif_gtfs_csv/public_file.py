@@ -3,7 +3,7 @@ from __future__ import annotations
 
 from typing import Iterator, NamedTuple, Sequence, Union
 
-from cif_shared.csv_files import Lines, Unreadable
+from cif_shared.csv_files import Lines, Mistake, Unreadable, plain_text, shown
 from cif_shared.endings import Refused
 
 MOST_BYTES = 1 << 30
@@ -21,6 +21,14 @@ class NumberedLine(NamedTuple):
 
 def refusal(path: str, line: int, text: str) -> Refused:
     return Refused(f"{path}: line {line}: {text}")
+
+
+def checked_text(path: str, line: int, field: str, value: str) -> str:
+    """A text that cif-gtfs takes."""
+    try:
+        return plain_text(value)
+    except Mistake as mistake:
+        raise refusal(path, line, f"{field} {shown(value)} {mistake}") from None
 
 
 def lines_of(path: str) -> Iterator[NumberedLine]:

@@ -2,9 +2,7 @@
 from __future__ import annotations
 
 import argparse
-import gc
 import io
-import os
 from pathlib import Path
 from typing import Optional, Sequence
 
@@ -12,11 +10,11 @@ from cif_shared.arguments import add_cif, add_help, add_names, add_window, new_p
 from cif_shared.cif import find_cif
 from cif_shared.csv_files import read_file
 from cif_shared.endings import SUCCESS, Misused, Refused
-from cif_shared.files import new_files, output_path, scratch_file
+from cif_shared.files import check_inputs_stay, new_files, output_path, scratch_file
 from cif_shared.operators import operator_name, read_operators
 from cif_shared.places import PLACES, Places
 from cif_shared.progress import Progress
-from cif_shared.running import run
+from cif_shared.running import leave_cycles, run
 
 from .comparison import compare, numbers_of
 from .days import Calendar
@@ -51,12 +49,18 @@ def number_of_trains(text: str) -> int:
     return int(text)
 
 
+def title(text: str) -> str:
+    if not text.strip():
+        raise argparse.ArgumentTypeError("the title is empty")
+    return text
+
+
 def arguments_of(words: Optional[Sequence[str]]) -> argparse.Namespace:
     parser = new_parser(PROGRAM, ABOUT, STATUSES)
     add = parser.add_argument
     add_window(parser)
     add_names(parser)
-    add("--title", metavar="TEXT", help="the title of the page")
+    add("--title", type=title, metavar="TEXT", help="the title of the page")
     add(
         "--most",
         type=number_of_trains,
@@ -95,11 +99,8 @@ class Outputs:
         self.rows = output_path(str(self.page.with_suffix(".csv")))
         if self.rows == self.page:
             raise Misused(f"{asked.output}: the CSV file would take the place of the page")
-        inputs = [asked.old, asked.new, asked.places, asked.operators]
-        for place in self.page, self.rows:
-            for each in inputs:
-                if each and place.exists() and os.path.exists(each) and place.samefile(each):
-                    raise Misused(f"{place} would take the place of an input")
+        others = (asked.places, asked.operators)
+        check_inputs_stay((self.page, self.rows), (asked.old, asked.new), others)
         check_rows(self.rows)
 
 
@@ -137,6 +138,5 @@ def write_report(asked: argparse.Namespace, progress: Progress) -> int:
 
 def main(words: Optional[Sequence[str]] = None) -> int:
     asked = arguments_of(words)
-    # nothing that is kept has cycles, and looking for them takes a tenth of the time
-    gc.disable()
+    leave_cycles()
     return run(PROGRAM, lambda progress: write_report(asked, progress))

@@ -9,7 +9,7 @@ from contextlib import contextmanager
 from pathlib import Path
 from typing import IO, Collection, Iterator, Optional, Sequence
 
-from .endings import FAILED, REFUSED, SUCCESS, USAGE, CifEnded, Ending, Failed
+from .endings import FAILED, REFUSED, SUCCESS, USAGE, CifEnded, Ending, Failed, Unexpected
 from .files import BLOCK, scratch_file
 
 # The statuses of cif that say of themselves why it ended.
@@ -29,6 +29,25 @@ def find_cif(asked: Optional[str]) -> Cif:
     return Cif(found)
 
 
+def read_rest(stream: IO[bytes]) -> None:
+    while stream.read(BLOCK):
+        pass
+
+
+def is_own(problem: Exception) -> bool:
+    """Whether what ends a run has nothing to do with what `cif` writes."""
+    own = isinstance(problem, (Ending, OSError, MemoryError))
+    return own and not isinstance(problem, Unexpected)
+
+
+def name_of_signal(number: int) -> str:
+    """Python knows no name of some signals."""
+    try:
+        return signal.Signals(number).name
+    except ValueError:
+        return f"signal {number}"
+
+
 class Cif:
     """The program `cif` by its path."""
 
@@ -42,8 +61,9 @@ class Cif:
         stdin: Optional[IO[bytes]] = None,
         good: Collection[int] = (SUCCESS,),
     ) -> Iterator[IO[bytes]]:
-        """What a call writes, as it comes. If the block ends early, so does `cif`. If its status
-        isn't a good one, the run ends with what it reported and what would help."""
+        """What a call writes, as it comes. What the block leaves is read too, since `cif` fails if it
+        can't write all. If the block fails, `cif` ends with it. If its status isn't a good one, the
+        run ends with what it reported and what would help."""
         with scratch_file() as report:
             call = [self.path, *words[:1], "--verbose", *words[1:]]
             try:
@@ -56,13 +76,12 @@ class Cif:
                 assert process.stdout is not None
                 try:
                     yield process.stdout
+                    read_rest(process.stdout)
                 except Exception as problem:  # pylint: disable=broad-except
-                    if isinstance(problem, (Ending, OSError, MemoryError)):
+                    if is_own(problem):
                         process.kill()
                         raise
-                    # what it wrote makes no sense, perhaps since it failed
-                    while process.stdout.read(BLOCK):
-                        pass
+                    read_rest(process.stdout)
                     if process.wait() in good:
                         raise
                 except BaseException:
@@ -76,7 +95,7 @@ class Cif:
         """How the run ends after a call that ended so."""
         lines = report.decode(errors="replace").splitlines()
         if status < 0:
-            lines.append(f"cif was killed by {signal.Signals(-status).name}: {self.path}")
+            lines.append(f"cif was killed by {name_of_signal(-status)}: {self.path}")
         elif status not in FAULTS:
             lines.append(
                 f"cif ended with status {status}, which isn't one of its faults: {self.path}"

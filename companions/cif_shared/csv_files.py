@@ -12,17 +12,28 @@ from .endings import Refused
 
 Row = TypeVar("Row", bound=NamedTuple)
 
-# There is at most a row for each place, with names. So what is longer is another file.
+# There is at most a row for each place, with names. So what is longer is the wrong file.
 MOST_BYTES = 64 << 20
 LONGEST_LINE = 1 << 16
 # So many mistakes of a file are reported, and the others are counted.
 MOST_MISTAKES = 20
 
-HOST = r"(?:[A-Za-z0-9](?:[A-Za-z0-9-]*[A-Za-z0-9])?\.)+[A-Za-z][A-Za-z0-9-]*[A-Za-z0-9]"
-WEB = re.compile(rf"https?://(?:{HOST}|\d+\.\d+\.\d+\.\d+)(?::\d+)?(?:[/?#][!-~]*)?")
-MAIL = re.compile(rf"[A-Za-z0-9.!#$%&'*+/=?^_`{{|}}~-]+@{HOST}")
-NUMBER = re.compile(r"[+-]?(?:\d+\.?\d*|\.\d+)")
-CONTROL = re.compile(r"[\x00-\x1f\x7f-\x9f\u2028\u2029]")
+# An address of the web or of mail is what MobilityData's validator takes, from memory.
+LABEL = r"[A-Za-z0-9](?:[A-Za-z0-9-]{0,61}[A-Za-z0-9])?"
+LAST_LABEL = r"[A-Za-z][A-Za-z0-9-]{0,61}[A-Za-z0-9]"
+HOST = rf"(?P<host>(?:{LABEL}\.)+{LAST_LABEL})"
+MOST_OF_HOST = 253
+BYTE = r"(?:25[0-5]|2[0-4][0-9]|1[0-9]{2}|[1-9]?[0-9])"
+WEB = re.compile(
+    rf"https?://(?:{HOST}|{BYTE}(?:\.{BYTE}){{3}})(?::(?P<port>[0-9]{{1,5}}))?(?:[/?#][!-~]*)?"
+)
+MOST_OF_PORT = 65535
+ATOM = r"[A-Za-z0-9!#$%&'*+/=?^_`{|}~-]+"
+MAIL = re.compile(rf"(?P<user>{ATOM}(?:\.{ATOM})*)@{HOST}")
+MOST_OF_USER = 64
+NUMBER = re.compile(r"[+-]?(?:[0-9]+\.?[0-9]*|\.[0-9]+)")
+# What has no place on a line of text. A byte of an argument that isn't text is a surrogate.
+CONTROL = re.compile(r"[\x00-\x1f\x7f-\x9f\u2028\u2029\ud800-\udfff]")
 
 
 class Mistake(Exception):
@@ -61,15 +72,27 @@ def crs_code(value: str) -> str:
     return value
 
 
+def name_of_publisher(value: str) -> str:
+    if not value.strip():
+        raise Mistake("is empty")
+    return plain_text(value)
+
+
 def web_address(value: str) -> str:
-    if not WEB.fullmatch(value):
+    found = WEB.fullmatch(value)
+    if (
+        not found
+        or len(found["host"] or "") > MOST_OF_HOST
+        or int(found["port"] or 0) > MOST_OF_PORT
+    ):
         raise Mistake("isn't an address of the web such as https://www.example.com/")
     return value
 
 
 def mail_address(value: str) -> str:
-    if not MAIL.fullmatch(value):
-        raise Mistake("isn't an address of mail such as info@example.com")
+    found = MAIL.fullmatch(value)
+    if not found or len(found["user"]) > MOST_OF_USER or len(found["host"]) > MOST_OF_HOST:
+        raise Mistake("isn't an email address such as info@example.com")
     return value
 
 
@@ -130,7 +153,7 @@ class Lines:
         self.number += 1
         self.left -= len(line)
         if len(line) > LONGEST_LINE or self.left < 0:
-            raise Unreadable("the line or the file is too long: this is another file")
+            raise Unreadable("the line or the file is too long: this can't be the right file")
         if b"\0" in line:
             raise Unreadable("this is no text: it has a byte 0")
         try:
@@ -170,7 +193,7 @@ class Reader(Generic[Row]):
     def is_heading(self, names: Sequence[str]) -> bool:
         fields = [field.name for field in self.layout.fields]
         wrong = [f"the field {name} is missing" for name in fields if name not in names]
-        wrong += [f"the field {name} is double" for name in fields if names.count(name) > 1]
+        wrong += [f"the field {name} is a duplicate" for name in fields if names.count(name) > 1]
         self.mistakes += [(1, mistake) for mistake in wrong]
         return not wrong
 
@@ -209,7 +232,9 @@ class Reader(Generic[Row]):
     def check_key(self, line: int, key: Key) -> None:
         if key in self.line_of:
             names = ", ".join(map(str, key))
-            self.mistakes.append((line, f"{names} is double: line {self.line_of[key]} has it too"))
+            self.mistakes.append(
+                (line, f"{names} is a duplicate: line {self.line_of[key]} has it too")
+            )
         if len(set(key)) < len(key):
             self.mistakes.append((line, f"{' and '.join(self.layout.key)} are the same"))
         self.line_of.setdefault(key, line)

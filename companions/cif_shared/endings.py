@@ -38,6 +38,10 @@ class Failed(Ending):
     status = FAILED
 
 
+class Unexpected(Failed):
+    """`cif` writes what makes no sense, perhaps since it fails."""
+
+
 class CifEnded(Ending):
     """`cif` ended with a fault. What it printed is printed as it is."""
 

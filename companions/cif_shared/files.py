@@ -1,14 +1,16 @@
 """Files that a run writes: temporary ones, and those that take their places once all is well."""
 from __future__ import annotations
 
+import errno
 import io
 import os
 import signal
 import stat
+import sys
 import tempfile
 from contextlib import contextmanager
 from pathlib import Path
-from typing import IO, Any, Iterator, List, Tuple
+from typing import IO, Any, Iterable, Iterator, List, Optional, Tuple
 
 from .endings import Failed, Misused
 from .running import INTERRUPTS
@@ -34,12 +36,41 @@ def reporting(descriptor: int, path: str) -> IO[bytes]:
     return io.BufferedRandom(ReportingFile(descriptor, path), BLOCK)
 
 
+def temporary_folder() -> str:
+    """The folder for temporary files. That of TMPDIR is taken, or the run ends."""
+    folder, asked = tempfile.gettempdir(), os.environ.get("TMPDIR")
+    if asked and os.path.abspath(asked) != os.path.abspath(folder):
+        raise Failed(f"TMPDIR: no temporary file can be written in {asked}")
+    return folder
+
+
 @contextmanager
 def scratch_file() -> Iterator[IO[bytes]]:
-    """A temporary file. Its faults name the folder for temporary files, which TMPDIR can change."""
-    with tempfile.TemporaryFile(buffering=0) as file:
-        with reporting(os.dup(file.fileno()), tempfile.gettempdir()) as scratch:
+    """A temporary file. Its faults name its folder."""
+    folder = temporary_folder()
+    with tempfile.TemporaryFile(buffering=0, dir=folder) as file:
+        with reporting(os.dup(file.fileno()), folder) as scratch:
             yield scratch
+
+
+@contextmanager
+def named_scratch_file() -> Iterator[Tuple[IO[bytes], Path]]:
+    """Likewise, with its path."""
+    folder = temporary_folder()
+    with tempfile.NamedTemporaryFile(dir=folder) as file:
+        with reporting(os.dup(file.fileno()), folder) as scratch:
+            yield scratch, Path(file.name)
+
+
+def kind_of(text: str) -> Optional[str]:
+    """What stands in the place of an output, if it isn't a regular file and can't be replaced."""
+    try:
+        mode = os.stat(text).st_mode
+    except OSError as problem:
+        return "a link in a circle" if problem.errno == errno.ELOOP else None
+    if stat.S_ISDIR(mode):
+        return "a folder"
+    return None if stat.S_ISREG(mode) else "a device or a pipe"
 
 
 def output_path(text: str) -> Path:
@@ -47,12 +78,35 @@ def output_path(text: str) -> Path:
     followed."""
     if text in ("", "-"):
         raise Misused(f"the output `{text}` has to be a file")
-    path = Path(os.path.realpath(text))
-    if path.is_dir() or text.endswith(os.sep):
-        raise Misused(f"the output {text} has to be a file, and isn't: it is a folder")
-    if path.exists() and not stat.S_ISREG(path.stat().st_mode):
-        raise Misused(f"the output {text} has to be a file, and isn't: it is a device or a pipe")
-    return path
+    # first what it is, since the path of a pipe leads nowhere
+    kind = "a folder" if text.endswith(os.sep) else kind_of(text)
+    if kind:
+        raise Misused(f"the output {text} has to be a file, and isn't: it is {kind}")
+    return Path(os.path.realpath(text))
+
+
+def stat_of(name: str) -> Optional[os.stat_result]:
+    try:
+        return os.stat(name)
+    except OSError:
+        return None
+
+
+def stat_of_extract(name: str) -> Optional[os.stat_result]:
+    """Likewise, where `-` is standard input."""
+    return os.fstat(sys.stdin.fileno()) if name == "-" else stat_of(name)
+
+
+def check_inputs_stay(
+    outputs: Iterable[Path], extracts: Iterable[str], others: Iterable[Optional[str]]
+) -> None:
+    """Refuses an output in the place of an input. An extract may be standard input."""
+    stats = [stat_of_extract(name) for name in extracts]
+    stats += [stat_of(name) for name in others if name]
+    for output in outputs:
+        there = stat_of(str(output))
+        if there and any(each and os.path.samestat(there, each) for each in stats):
+            raise Misused(f"{output} would take the place of an input: rename one of them")
 
 
 def mode_for(path: Path) -> int:
@@ -64,9 +118,17 @@ def mode_for(path: Path) -> int:
     return 0o666 & ~mask
 
 
+# A file's name has 255 bytes at most, of which so many leave room for what makes one unlike others.
+ROOM = 200
+
+
 def file_beside(place: Path) -> Path:
     """The path of a new file in the folder of a place."""
-    descriptor, name = tempfile.mkstemp(dir=place.parent, prefix=f".{place.name}.")
+    start = os.fsencode(place.name)[:ROOM].decode(sys.getfilesystemencoding(), "ignore")
+    try:
+        descriptor, name = tempfile.mkstemp(dir=place.parent, prefix=f".{start}.")
+    except OSError as problem:
+        raise Failed(f"{place}: {problem.strerror}") from None
     os.close(descriptor)
     return Path(name)
 

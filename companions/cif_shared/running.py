@@ -1,6 +1,7 @@
 """The frame of a run: standard streams, interrupts, whatever ends it, and its status."""
 from __future__ import annotations
 
+import gc
 import os
 import signal
 import sys
@@ -60,7 +61,15 @@ def catch_interrupts() -> None:
 def description_of(problem: OSError) -> str:
     """The file and the reason of a fault of the system."""
     reason = problem.strerror or str(problem)
-    return f"{os.fspath(problem.filename)}: {reason}" if problem.filename else reason
+    if problem.filename is None:
+        return reason
+    return f"{os.fspath(problem.filename) or repr('')}: {reason}"
+
+
+def leave_cycles() -> None:
+    """Ends Python's looking for cycles: nothing that is kept has any, and it takes a tenth of the
+    time."""
+    gc.disable()
 
 
 def run(program: str, work: Callable[[Progress], int]) -> int:

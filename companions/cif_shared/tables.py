@@ -6,7 +6,6 @@ import re
 import shutil
 import stat
 import sys
-import tempfile
 from contextlib import ExitStack, contextmanager
 from operator import itemgetter
 from pathlib import Path
@@ -14,8 +13,8 @@ from typing import IO, Callable, Collection, Iterator, List, Mapping, NamedTuple
 from typing import Sequence, Type, TypeVar
 
 from .cif import Cif
-from .endings import CifEnded, Failed, Misused
-from .files import BLOCK, reporting
+from .endings import CifEnded, Failed, Misused, Unexpected
+from .files import BLOCK, named_scratch_file
 
 Row = TypeVar("Row", bound=NamedTuple)
 
@@ -45,21 +44,6 @@ class TiplocRow(NamedTuple):
     description: str
 
 
-class ScheduleRow(NamedTuple):
-    """A schedule of an extract, without its calls."""
-
-    schedule: str
-    uid: str
-    first_date: str
-    last_date: str
-    days_run: str
-    status: str
-    category: str
-    identity: str
-    sleepers: str
-    operator_code: str
-
-
 class AssociationRow(NamedTuple):
     """An association of an extract."""
 
@@ -85,6 +69,10 @@ class Table(NamedTuple):
 
     def reader(self, kind: Type[Row]) -> Callable[[bytes], Row]:
         """Reads a line: those fields that a row of this kind has, whatever their order."""
+        missing = [field for field in kind._fields if field not in self.names]
+        if missing:
+            what = f"a table without the field {missing[0]}"
+            raise Unexpected(f"cif writes {what}: is it another program, or another release?")
         cells_at = itemgetter(*(self.names.index(field) for field in kind._fields))
         return lambda line: kind._make(cells_at(line.decode().rstrip("\n").split("\t")))
 
@@ -192,14 +180,12 @@ class Extract:
     def part(self, uids: Collection[bytes]) -> Iterator[Optional[Extract]]:
         """An extract of some trains alone, since no other record says what runs of these. There is
         none if not all lines have one length."""
-        with tempfile.NamedTemporaryFile() as file:
-            descriptor = os.dup(file.fileno())
-            with open(self.path, "rb") as whole, reporting(
-                descriptor, tempfile.gettempdir()
-            ) as part:
+        with named_scratch_file() as (part, path):
+            with open(self.path, "rb") as whole:
                 found = write_part(whole, uids, part)
+            part.flush()
             self.check_state()
-            yield Extract(self.cif, Path(file.name), self.words) if found else None
+            yield Extract(self.cif, path, self.words) if found else None
 
     def rows(self, name: str, kind: Type[Row]) -> List[Row]:
         """All rows of a table of header, places or associations. Nothing of these depends on the
@@ -276,13 +262,11 @@ def write_part(
 @contextmanager
 def with_head(extract: Extract) -> Iterator[Extract]:
     """The extract with a file of what stands before its schedules."""
-    with tempfile.NamedTemporaryFile() as file:
-        descriptor = os.dup(file.fileno())
-        with open(extract.path, "rb") as whole, reporting(
-            descriptor, tempfile.gettempdir()
-        ) as head:
+    with named_scratch_file() as (head, path):
+        with open(extract.path, "rb") as whole:
             found = write_head(whole, head)
-        extract.head = Path(file.name) if found else None
+        head.flush()
+        extract.head = path if found else None
         yield extract
 
 
@@ -316,10 +300,7 @@ def open_extract(
 @contextmanager
 def copy_of(source: IO[bytes]) -> Iterator[Path]:
     """The path of a temporary file with all that a source gives."""
-    descriptor, name = tempfile.mkstemp()
-    try:
-        with reporting(descriptor, tempfile.gettempdir()) as copy:
-            shutil.copyfileobj(source, copy, BLOCK)
-        yield Path(name)
-    finally:
-        os.unlink(name)
+    with named_scratch_file() as (copy, path):
+        shutil.copyfileobj(source, copy, BLOCK)
+        copy.flush()
+        yield path

@@ -2,7 +2,6 @@
 from __future__ import annotations
 
 import argparse
-import gc
 import hashlib
 import os
 from concurrent.futures import ThreadPoolExecutor
@@ -16,11 +15,11 @@ from cif_shared.arguments import add_cif, add_help, add_names, add_window, new_p
 from cif_shared.cif import Cif, find_cif
 from cif_shared.csv_files import CONTROL, read_file
 from cif_shared.endings import SUCCESS, Misused
-from cif_shared.files import BLOCK, new_files, output_path
+from cif_shared.files import BLOCK, check_inputs_stay, new_files, output_path
 from cif_shared.operators import read_operators
 from cif_shared.places import PLACES
 from cif_shared.progress import Progress
-from cif_shared.running import run, standard_output
+from cif_shared.running import leave_cycles, run, standard_output
 from cif_shared.tables import Extract, is_stream, open_extract
 
 from .background import in_background
@@ -77,9 +76,7 @@ def place_of(asked: argparse.Namespace) -> Path:
             raise Misused("the extract has no name: -o says which database to write")
         name = os.path.splitext(asked.extract)[0] + ".db"
     place = output_path(name)
-    for each in (asked.extract, asked.places, asked.operators):
-        if each and place.exists() and os.path.exists(each) and place.samefile(each):
-            raise Misused(f"{place} would take the place of an input: -o says where to write")
+    check_inputs_stay([place], [asked.extract], (asked.places, asked.operators))
     return place
 
 
@@ -162,7 +159,6 @@ def write_script(asked: argparse.Namespace, progress: Progress) -> int:
 
 def main(words: Optional[Sequence[str]] = None) -> int:
     asked = arguments_of(words)
-    # nothing that is kept has cycles, and looking for them takes a tenth of the time
-    gc.disable()
+    leave_cycles()
     make = write_script if asked.postgres else make_file
     return run(PROGRAM, lambda progress: make(asked, progress))

@@ -18,6 +18,7 @@ from pathlib import Path
 from typing import Callable, DefaultDict, Dict, FrozenSet, List, Optional, Set, Tuple
 
 from cif_gtfs import trips
+from cif_shared.csv_files import Mistake, mail_address, web_address
 from cif_shared.endings import Refused
 from cif_shared.tables import rows_with, write_part
 
@@ -53,7 +54,7 @@ BAD_FILES = {
             "line 4: tiploc is missing",
             "line 5: latitude `north` isn't a number of degrees from -90 to 90",
             "line 5: longitude `181` isn't a number of degrees from -180 to 180",
-            "line 6: ALPHA is double: line 2 has it too",
+            "line 6: ALPHA is a duplicate: line 2 has it too",
             "line 7: 2 fields, and the first line has 4",
             "line 8: name `The?ta` has a line break or another control character",
             "line 10: name `Io?ta` has a line break or another control character",
@@ -68,7 +69,7 @@ BAD_FILES = {
         (
             "line 2: name is missing",
             "line 2: url `www.southern.example` isn't an address of the web such as https://www.example.com/",
-            "line 3: SN is double: line 2 has it too",
+            "line 3: SN is a duplicate: line 2 has it too",
             *(
                 f"line {line}: url `{url}` isn't an address of the web such as https://www.example.com/"
                 for line, url in enumerate(
@@ -88,12 +89,12 @@ BAD_FILES = {
     ),
     "links": (
         "from,to,minutes\nALP,ALP,5\nALP,BET,5\nBET,ALP,6\nALP,BET,7\n",
-        ("line 2: from and to are the same", "line 5: ALP, BET is double: line 3 has it too"),
+        ("line 2: from and to are the same", "line 5: ALP, BET is a duplicate: line 3 has it too"),
     ),
 }
 BAD_HEADINGS = {
     "places": ("tiploc,name,latitude\n", ("line 1: the field longitude is missing",)),
-    "links": ("from,to,minutes,to\n", ("line 1: the field to is double",)),
+    "links": ("from,to,minutes,to\n", ("line 1: the field to is a duplicate",)),
     "operators": (
         "",
         tuple(f"line 1: the field {name} is missing" for name in ("operator_code", "name", "url")),
@@ -113,7 +114,7 @@ OTHER_FILES = {
     "a byte 0": (HEADING + b"ALPHA,,,\nBETA,B\0,,\n", "line 3: this is no text: it has a byte 0"),
     "a long line": (
         HEADING + b"A" * 70000,
-        "line 2: the line or the file is too long: this is another file",
+        "line 2: the line or the file is too long: this can't be the right file",
     ),
     "many mistakes": (HEADING + b"ALPHA,A,x,\n" * 30, None),
 }
@@ -192,7 +193,7 @@ def check_other_files(counts: Counts, maker: Maker, special: Path) -> None:
         lines[-3:],
     )
     endless = [
-        "cif-gtfs: /dev/zero: line 1: the line or the file is too long: this is another file"
+        "cif-gtfs: /dev/zero: line 1: the line or the file is too long: this can't be the right file"
     ]
     refused(counts, maker, "an endless file", 3, endless, "--places", "/dev/zero", special)
 
@@ -201,25 +202,27 @@ def check_outputs(counts: Counts, maker: Maker, special: Path) -> None:
     """An output is a file, or a link to one, and what was there stays if it isn't."""
     folder = maker.folder
     os.mkfifo(folder / "fifo")
+    (folder / "loop").symlink_to("loop")
     (folder / "folder").mkdir()
-    others = ["fifo", "folder", "folder/", "missing/", "-", ""]
+    # what is run has a pipe for its standard output
+    others = ["fifo", "loop", "folder", "folder/", "missing/", "-", "", "/dev/stdout"]
     if os.geteuid() == 0:
         os.mknod(folder / "device", 0o666 | stat.S_IFCHR, os.makedev(1, 3))
         others.append("device")
-    kinds = {path.name: path.stat().st_mode for path in folder.iterdir()}
+    kinds = {path.name: path.lstat().st_mode for path in folder.iterdir()}
     for output in others:
         refused(counts, maker, f"the output {output!r}", 2, None, "-o", output, special)
         refused(counts, maker, f"the trips {output!r}", 2, None, "--trips", output, special)
     counts.same(
         "what wasn't a file stays",
         kinds,
-        {path.name: path.stat().st_mode for path in folder.iterdir()},
+        {path.name: path.lstat().st_mode for path in folder.iterdir()},
     )
     refused(
         counts, maker, "two outputs in one place", 2, None, "-o", "one", "--trips", "./one", special
     )
     for output in others:
-        if output in ("fifo", "device"):
+        if output in ("fifo", "loop", "device"):
             (folder / output).unlink()
     (folder / "target.zip").write_text("older")
     (folder / "target.zip").chmod(0o640)
@@ -234,26 +237,80 @@ def check_outputs(counts: Counts, maker: Maker, special: Path) -> None:
     )
 
 
+# Lists of places without coordinates that somebody has filled in, or that are other files.
+LIST_HEADING = "tiploc,name,latitude,longitude,known_as\n"
+FILLED = {
+    "coordinates": LIST_HEADING + "ALPHA,Alpha Junction,51,0,Alpha Junction\n",
+    "one coordinate": LIST_HEADING + "ALPHA,Alpha Junction,,0,Alpha Junction\n",
+    "a name": LIST_HEADING + "ALPHA,Alpha,,,Alpha Junction\nOMEGA,Omega,,,Omega\n",
+    "no name": LIST_HEADING + "ALPHA,,,,Alpha Junction\n",
+    "a remark": LIST_HEADING + "ALPHA,Alpha Junction,,,Alpha Junction,ask\n",
+    "a file of places": "tiploc,name,latitude,longitude\nALPHA,Alpha,,\n",
+    "another file": "monday,tuesday,,\nCall Ann,,,\n",
+    "no CSV": LIST_HEADING + 'ALPHA,"Alpha Junction\n',
+}
+
+
+def check_filled(counts: Counts, maker: Maker, special: Path, places: Path) -> None:
+    """A list that somebody has filled in is neither replaced nor removed."""
+    wanted = maker.folder / "folder" / "places-wanted.csv"
+    told = [
+        "cif-gtfs: folder/places-wanted.csv has been filled in: rename it, and give it by --places"
+    ]
+    calls: List[Tuple[Word, ...]] = [(), ("--places", places)]
+    for name, text in FILLED.items():
+        wanted.write_text(text)
+        for words in calls:
+            words = ("-o", "folder/feed.zip", *words, special)
+            refused(counts, maker, f"a list with {name}, {words[2:-1]}", 2, told, *words)
+            counts.same(f"a list with {name} stays", text, wanted.exists() and wanted.read_text())
+
+
+def check_place_of_wanted(counts: Counts, maker: Maker, special: Path, unfilled: str) -> None:
+    """The list is a file, or a link to one, as any output."""
+    folder = maker.folder / "folder"
+    wanted, behind = folder / "places-wanted.csv", maker.folder / "behind.csv"
+    wanted.unlink()
+    for is_pipe in False, True:
+        (os.mkfifo if is_pipe else os.mkdir)(wanted)
+        name = "a list that isn't a file"
+        refused(counts, maker, name, 2, None, "-o", "folder/feed.zip", special)
+        (os.unlink if is_pipe else os.rmdir)(wanted)
+    behind.write_text(LIST_HEADING)
+    wanted.symlink_to("../behind.csv")
+    done = maker.run("-o", "folder/feed.zip", special)
+    counts.same(
+        "a list behind a link",
+        (1, True, unfilled),
+        (done.returncode, wanted.is_symlink(), behind.read_text()),
+    )
+    wanted.unlink()
+    behind.rename(wanted)
+
+
 def check_wanted(counts: Counts, maker: Maker, special: Path) -> None:
     """An older list of places without coordinates goes when no place is without, but not if somebody has filled it in."""
     folder = maker.folder / "folder"
     wanted = folder / "places-wanted.csv"
     counts.test("places are wanted beside the name that is given", wanted.exists())
     places = maker.folder / "all.csv"
-    names = [line.partition(",")[0] for line in wanted.read_text().splitlines()[1:]]
+    unfilled = wanted.read_text()
+    names = [line.partition(",")[0] for line in unfilled.splitlines()[1:]]
     places.write_text(
         "tiploc,name,latitude,longitude\n" + "".join(f"{name},,51,-.5\n" for name in names)
     )
-    filled = wanted.read_text().replace(",,\n", ",51,0\n")
-    unfilled, _ = wanted.read_text(), wanted.write_text(filled)
-    told = [
-        "cif-gtfs: folder/places-wanted.csv has been filled in: rename it, and give it by --places"
-    ]
-    refused(counts, maker, "a list that is filled in", 2, told, "-o", "folder/feed.zip", special)
-    counts.same("a list that is filled in stays", filled, wanted.read_text())
-    wanted.write_text(unfilled)
-    done = maker.run("-o", "folder/feed.zip", "--places", places, special)
-    counts.same("no place is wanted", (0, False), (done.returncode, wanted.exists()))
+    renamed = maker.folder / "renamed.csv"
+    renamed.write_text(unfilled.replace(",,,", ",51,-.5,"))
+    done = maker.run("--places", renamed, "-o", "renamed.zip", special)
+    counts.same("a list that is filled in and renamed", 0, done.returncode)
+    (maker.folder / "renamed.zip").unlink()
+    renamed.unlink()
+    check_filled(counts, maker, special, places)
+    check_place_of_wanted(counts, maker, special, unfilled)
+    for text in unfilled, unfilled + "\n", unfilled.replace("\n", "\r\n"):
+        wanted.write_bytes(text.encode())
+        done = maker.run("-o", "folder/feed.zip", "--places", places, special)
+        counts.same("no place is wanted", (0, False), (done.returncode, wanted.exists()))
     shutil.rmtree(folder)
     for name in "all.csv", "target.zip":
         (maker.folder / name).unlink()
@@ -319,6 +376,18 @@ def check_space(counts: Counts, maker: Maker, special: Path) -> None:
     )
     counts.same("no space, what is left", [], sorted(temporary.iterdir()))
     temporary.rmdir()
+    for folder in temporary, special:
+        environment = {**os.environ, "TMPDIR": str(folder)}
+        done = subprocess.run(
+            [*words[5:]],
+            env=environment,
+            capture_output=True,
+            text=True,
+            cwd=maker.folder,
+            check=False,
+        )
+        told = f"cif-gtfs: TMPDIR: no temporary file can be written in {folder}\n"
+        counts.same(f"TMPDIR is {folder.name}", (4, told), (done.returncode, done.stderr))
 
 
 def check_version(counts: Counts, maker: Maker) -> None:
@@ -327,6 +396,54 @@ def check_version(counts: Counts, maker: Maker) -> None:
     for program in "cif-gtfs", "cif-gtfs-csv":
         done = maker.run("--version", program=program)
         counts.same(f"{program} --version", f"{program} {number}", done.stdout)
+
+
+CONTROL = "has a line break or another control character"
+NO_WEB = "isn't an address of the web such as https://www.example.com/"
+NO_MAIL = "isn't an email address such as info@example.com"
+# Addresses that break a rule each, and the longest ones that are right: a label has 63 letters, a host 253, a port is 65535 at most,
+# and what stands before the @ has 64 characters.
+LONG_HOST = ".".join(["a" * 63] * 3 + ["b" * 57, "com"])
+BAD_ADDRESSES = (
+    "http://999.999.1.1",
+    "http://256.1.1.1/",
+    "http://1.2.3.04/",
+    "http://\u0661.\u0662.\u0663.\u0664/",
+    "http://a.example:\u0661/",
+    "http://a.example:65536/",
+    "http://a.example:99999/",
+    f"http://{'a' * 64}.com/",
+    f"http://a.{'c' * 64}/",
+    f"https://a{LONG_HOST}/",
+)
+GOOD_ADDRESSES = (
+    "http://255.249.199.0",
+    "http://a.example:65535/x?y#z",
+    f"http://{'a' * 63}.{'c' * 63}",
+    f"https://{LONG_HOST}/",
+)
+BAD_MAIL = (
+    ".a@c.com",
+    "a.@c.com",
+    "a..b@c.com",
+    "a@c",
+    f"a@{'b' * 64}.com",
+    f"a@b{LONG_HOST}",
+    f"{'a' * 65}@c.com",
+)
+GOOD_MAIL = (f"{'a' * 62}.b@c.com", f"a@{LONG_HOST}", "a.b+c@d-e.example")
+# What isn't UTF-8 in an argument becomes a surrogate.
+BAD_PUBLISHERS = (
+    ("--publisher", "a\nb", f"`a?b` {CONTROL}"),
+    ("--publisher", "Caf\udce9", f"`Caf?` {CONTROL}"),
+    ("--publisher", "", "`` is empty"),
+    ("--publisher", " ", "` ` is empty"),
+    ("--url", "acme.example", f"`acme.example` {NO_WEB}"),
+    ("--url", "", f"`` {NO_WEB}"),
+    ("--email", "acme", f"`acme` {NO_MAIL}"),
+    ("--email", "a b@c.example", f"`a b@c.example` {NO_MAIL}"),
+    ("--email", "", f"`` {NO_MAIL}"),
+)
 
 
 def check_publisher(counts: Counts, maker: Maker, special: Path) -> None:
@@ -341,13 +458,50 @@ def check_publisher(counts: Counts, maker: Maker, special: Path) -> None:
     [about] = maker.feed(*words, special)[1]["feed_info"].splitlines()[1:]
     counts.test("the publisher", about.startswith('"Acme, Feeds",https://acme.example/x?y,'), about)
     counts.test("the publisher's mail", about.endswith(",feeds@acme.example"), about)
-    for option, bad in (
-        ("--publisher", "a\nb"),
-        ("--url", "acme.example"),
-        ("--email", "acme"),
-        ("--email", "a b@c.example"),
+    for option, bad, told in BAD_PUBLISHERS:
+        told = f"cif-gtfs: {option} {told}"
+        refused(counts, maker, f"{option} {bad!r}", 2, [told], option, bad, special)
+
+
+def is_taken(read: Callable[[str], str], text: str) -> bool:
+    try:
+        return read(text) == text
+    except Mistake:
+        return False
+
+
+def check_addresses(counts: Counts) -> None:
+    counts.same("the length of the longest host", 253, len(LONG_HOST))
+    for read, good, bad in (
+        (web_address, GOOD_ADDRESSES, BAD_ADDRESSES),
+        (mail_address, GOOD_MAIL, BAD_MAIL),
     ):
-        refused(counts, maker, f"{option} {bad!r}", 2, None, option, bad, special)
+        for text in (*good, *bad):
+            counts.same(f"the address {text}", text in good, is_taken(read, text))
+
+
+def check_own_input(counts: Counts, maker: Maker, special: Path) -> None:
+    """No output takes the place of an extract that is standard input."""
+    extract = maker.folder / "own.cif"
+    extract.write_bytes(special.read_bytes())
+    told = f"cif-gtfs: {extract} would take the place of an input: rename one of them\n"
+    for option in "-o", "--trips":
+        for name in "-", "/dev/stdin":
+            words: List[Word] = [COMPANIONS / "cif-gtfs", "--cif", maker.cif]
+            words += [option, "own.cif", name]
+            with open(extract, "rb") as stdin:
+                done = subprocess.run(
+                    words,
+                    stdin=stdin,
+                    capture_output=True,
+                    text=True,
+                    cwd=maker.folder,
+                    check=False,
+                )
+            counts.same(f"{option} for {name}", (2, told), (done.returncode, done.stderr))
+            kept = extract.read_bytes() == special.read_bytes()
+            counts.test(f"{option} for {name}, the extract stays", kept)
+    extract.unlink()
 
 
 def check_words(counts: Counts, maker: Maker, special: Path) -> None:
@@ -366,6 +520,7 @@ def check_words(counts: Counts, maker: Maker, special: Path) -> None:
     for words in calls:
         refused(counts, maker, f"an output in the place of an input, {words[1]}", 2, None, *words)
     wanted.unlink()
+    check_own_input(counts, maker, special)
     for word in "260230", "":
         told = ["cif: bad date", f"  '{word}': must be a valid date as six digits, YYMMDD"]
         refused(counts, maker, f"the date {word!r}", 2, told, "--from", word, special)
@@ -408,15 +563,35 @@ def check_failures(counts: Counts, maker: Maker, special: Path) -> None:
         [f"cif-gtfs: {freight} has no public train in its window"],
         freight,
     )
-    refused(counts, maker, "no folder for the zip", 4, None, "-o", "missing/gtfs.zip", special)
+    told = [f"cif-gtfs: {maker.folder}/missing/gtfs.zip: No such file or directory"]
+    refused(counts, maker, "no folder for the zip", 4, told, "-o", "missing/gtfs.zip", special)
+    check_names(counts, maker, special)
     refused(counts, maker, "no program cif", 4, None, "--cif", "./missing", special)
-    refused(counts, maker, "another program", 4, None, "--cif", "echo", special)
+    told = [
+        "cif-gtfs: cif writes a table without the field mainframe_identity: is it another program, or another release?"
+    ]
+    refused(counts, maker, "another program", 4, told, "--cif", "echo", special)
     (maker.folder / "gtfs.zip").write_text("older")
     refused(counts, maker, "a refused extract over an older zip", 3, None, bad)
     counts.same("an older zip stays", "older", (maker.folder / "gtfs.zip").read_text())
     (maker.folder / "gtfs.zip").unlink()
     for table in "header", "schedules", "public":
         check_failing_cif(counts, maker, special, table)
+
+
+def check_names(counts: Counts, maker: Maker, special: Path) -> None:
+    """A name can be as long as the system has them, and one that is empty is shown."""
+    longest = maker.folder / ("a" + "\u00e4" * 127)
+    done = maker.run("-o", longest, special)
+    counts.same("the longest name, status", 1, done.returncode)
+    counts.test("the longest name", zipfile.is_zipfile(longest))
+    for path in longest, maker.folder / "places-wanted.csv":
+        path.unlink(missing_ok=True)
+    told = [f"cif-gtfs: {longest}a: File name too long"]
+    refused(counts, maker, "a longer name", 4, told, "-o", f"{longest}a", special)
+    told = ["cif-gtfs: '': No such file or directory"]
+    refused(counts, maker, "an extract without a name", 4, told, "")
+    refused(counts, maker, "places without a name", 4, told, "--places", "", special)
 
 
 def failing_cif(maker: Maker, table: str, then: str) -> Maker:
@@ -429,9 +604,11 @@ def failing_cif(maker: Maker, table: str, then: str) -> Maker:
 def check_failing_cif(counts: Counts, maker: Maker, special: Path, table: str) -> None:
     failing = failing_cif(maker, table, "echo 'cif: Memory' >&2; exit 4")
     refused(counts, failing, f"cif fails at {table}", 4, ["cif: Memory"], special)
-    failing = failing_cif(maker, table, "kill -KILL $$")
-    killed = [f"cif was killed by SIGKILL: {failing.cif}"]
-    refused(counts, failing, f"cif is killed at {table}", 4, killed, special)
+    # the second signal has no name
+    for number, name in ("KILL", "SIGKILL"), ("40", "signal 40"):
+        failing = failing_cif(maker, table, f"kill -{number} $$")
+        killed = [f"cif was killed by {name}: {failing.cif}"]
+        refused(counts, failing, f"cif is killed at {table}, {name}", 4, killed, special)
     for status in 1, 7:
         failing = failing_cif(maker, table, f"exit {status}")
         ended = [f"cif ended with status {status}, which isn't one of its faults: {failing.cif}"]
@@ -671,6 +848,46 @@ def check_few(counts: Counts, maker: Maker) -> None:
     counts.same("what a feed of few associations leaves out", want.stderr, got.stderr)
 
 
+# A train that divides at BETA, and its portion. Trains whose calls are far more than a pipe holds come after them.
+DIVIDING = """\
+HDTPS.UTEST01.PD2601040401262000DFTEST1       FA050126250126
+TIALPHA  00890500AALPHA JUNCTION            032010000ALPALPHA
+TIBETA   00890500BBETA-ON-SEA               032020000BET
+AANA00001A000022601052601231111100VVSBETA     TP                               P
+BSNA000012601052601231111100 PXX1S01    122104000 EMU    090      B            P
+BX         SRY
+LOALPHA   2100 21001         TB
+LIBETA    2130 2135      213021352        T
+LTALPHA   2300 23004     TF
+BSNA000022601052601231111100 PXX1S02    122104000 EMU    090      B            P
+BX         SRY
+LOBETA    2140 21401         TB
+LTALPHA   2300 23004     TF
+"""
+LONG = """\
+BSNB{number:05}2601052601231111100 PXX1S03    122104000 EMU    090      B            P
+BX         SRY
+LOALPHA   2100 21001         TB
+{calls}LTALPHA   2300 23004     TF
+"""
+PASSING = "LIBETA              2200 00000000\n"
+# Each has 3,500 calls, and all of them some 3 MB of rows.
+LONG_TRAINS = 16
+PASSINGS = 3498
+
+
+def check_rest(counts: Counts, maker: Maker) -> None:
+    """After the last train with associations there are far more calls than a pipe holds."""
+    long = "".join(LONG.format(number=n, calls=PASSING * PASSINGS) for n in range(LONG_TRAINS))
+    extract = maker.folder / "long.cif"
+    extract.write_bytes(b"".join(padded(*(DIVIDING + long + "ZZ").splitlines())))
+    done = maker.run(extract)
+    wanted = ["cif-gtfs: places without coordinates: 2, listed in places-wanted.csv"]
+    counts.same(
+        "calls after linked trains", (1, wanted), (done.returncode, done.stderr.splitlines())
+    )
+
+
 def check(counts: Counts, maker: Maker, special: Path) -> None:
     folder = maker.folder / "failures"
     folder.mkdir()
@@ -685,6 +902,7 @@ def check(counts: Counts, maker: Maker, special: Path) -> None:
     check_hints(counts, maker, special)
     check_space(counts, maker, special)
     check_publisher(counts, maker, special)
+    check_addresses(counts)
     check_version(counts, maker)
     check_changed(counts, maker, special)
     check_signals(counts, maker, special)
@@ -695,3 +913,4 @@ def check(counts: Counts, maker: Maker, special: Path) -> None:
     check_blocks(counts)
     check_part(counts)
     check_few(counts, maker)
+    check_rest(counts, maker)

@@ -57,6 +57,9 @@ OF_MSN: Dict[str, Tuple[str, Optional[float], Optional[float]]] = {
 }
 OF_MSN |= {"VICTRIE": OF_MSN["VICTRIC"], "STFDAVN": ("Stratford-upon-Avon", None, None)}
 INTERCHANGE = "crs,minutes\nCLJ,10\nSAV,5\nVIC,15\n"
+# The first lines of an extract.
+HEADER = "HDTPS.UDFROC1.PD2601011101262000DFROC1A       FA010126010227\n"
+ASSOCIATION = "AANP00001P000022601012602011111111NPSEDINBUR  TO                               P\n"
 ALF = """\
 /!! a remark
 M=WALK,O=EUS,D=KGX,T=10,S=0001,E=2359,P=4,R=1111111
@@ -64,6 +67,21 @@ M=TUBE,O=EUS,D=KGX,T=12,S=0600,E=2359,P=5,R=1111100,F=01/02/2026,U=02/03/2026
 M=WALK,O=KGX,D=EUS,T=10,S=0001,E=2359,P=4,R=1111111
 M=WALK,O=KGX,D=KGX,T=3,S=0001,E=2359,P=4,R=1111111
 M=TUBE,O=WAT,D=EUS,T=25,S=0600,E=2359,P=5,R=1111100
+"""
+# Stations whose place is unknown, though it is written as 0, and one that only the grid has.
+UNKNOWN = """\
+ATCOCode,CommonName,Easting,Northing,Longitude,Latitude
+9100ZERO,Zero,,,0,0.000
+9100ONGRID,On the grid,651410,313177,0.0,-0
+9100ZEROS,Zeros,0,00.0,0,0
+9100GRID,Grid,0,0,,
+"""
+OF_UNKNOWN = """\
+tiploc,name,latitude,longitude
+GRID,Grid,,
+ONGRID,On the grid,52.65798,1.71605
+ZERO,Zero,,
+ZEROS,Zeros,,
 """
 LINKS = "from,to,minutes\nEUS,KGX,12\nEUS,WAT,25\nKGX,EUS,10\nWAT,EUS,25\n"
 
@@ -85,7 +103,10 @@ def with_record(
 
 BAD = {
     "naptan-places": (
-        ("ATCOCode,CommonName,Longitude\n", "line 1: the field Latitude is missing or double"),
+        (
+            "ATCOCode,CommonName,Longitude\n",
+            "line 1: the field Latitude is missing or a duplicate",
+        ),
         (
             NAPTAN + "9100HOVE,,Hove,,,,,-0.2,ninety,RLY\n",
             "line 10: Latitude `ninety` isn't a number of degrees from -90 to 90",
@@ -97,15 +118,50 @@ BAD = {
         (NAPTAN + "9100HOVE,,Hove\n", "line 10: 3 fields, and the first line has 10"),
         (
             NAPTAN + '0100BRP1,,"A stop,,,,,,,\n9100HOVE,,Hove,,,,,,,RLY\n',
-            "line 11: this is no CSV: unexpected end of data",
+            "line 10: this is no CSV: unexpected end of data",
         ),
         (
             NAPTAN + '0100BRP1,,"A stop,,,,,,,\n' + "0100BRP2,,A stop,,,,,,,\n" * 6000,
-            "line 5709: this is no CSV: field larger than field limit (131072)",
+            "line 10: this is no CSV: field larger than field limit (131072)",
         ),
         (
             NAPTAN + "9100HOVE,,Hove,,,1,east,,,RLY\n",
             "line 10: Northing `east` isn't a number of metres",
+        ),
+        (
+            NAPTAN + '0100BRP1,,"A\nstop",,,,,,,\n9100HOVE,,Hove,"1\n2",,,,-0.2,ninety,RLY\n',
+            "line 12: Latitude `ninety` isn't a number of degrees from -90 to 90",
+        ),
+        (
+            NAPTAN + '9100HOVE,,"Ho\nve",,,,,,,RLY\n',
+            "line 10: CommonName `Ho?ve` has a line break or another control character",
+        ),
+        (
+            NAPTAN + "9100HOVE,,Ho\tve,,,,,,,RLY\n",
+            "line 10: CommonName `Ho?ve` has a line break or another control character",
+        ),
+        (
+            NAPTAN + "9100HO\tVE,,Hove,,,,,,,RLY\n",
+            "line 10: ATCOCode `9100HO?VE` has a line break or another control character",
+        ),
+        (NAPTAN + "9100,,Hove,,,,,,,RLY\n", "line 10: the TIPLOC is missing"),
+        (
+            NAPTAN + "9100HOVE,,Hove,,,,,-.5,0.5,RLY\n",
+            "line 10: `0.5`, `-0.5` is near 0, 0, where no railway is",
+        ),
+        (NAPTAN + "9100HOVE,,Hove,,,,,3,-89,RLY\n", "line 10: latitude `-89` is at a pole"),
+        *(
+            (
+                NAPTAN + f"9100HOVE,,Hove,,UKOS,{easting},{northing},,,RLY\n",
+                f"line 10: {what} isn't on the grid, which ends at {end}",
+            )
+            for easting, northing, what, end in (
+                ("700000", "1", "Easting `700000`", 700000),
+                ("1", "1300000", "Northing `1300000`", 1300000),
+                ("9999999", "9999999", "Easting `9999999`", 700000),
+                ("0", "1", "Easting `0`", 700000),
+                ("1", "0.0", "Northing `0.0`", 1300000),
+            )
         ),
     ),
     "msn-places": (
@@ -118,7 +174,13 @@ BAD = {
             with_record("HOVE", "HOV", "15288", "6105", 5),
             "line 8: northing `6105` isn't 6 and four digits",
         ),
-        (NAPTAN, "line 2: no record of MSN begins so"),
+        (
+            with_record("HOVE", "HOV", "15288", "61055", 5).replace("HOVE ", "HO\tVE", 1),
+            "line 8: name `HO?VE` has a line break or another control character",
+        ),
+        (NAPTAN, "line 1: no record of MSN begins so"),
+        (HEADER + ASSOCIATION, "line 2: no record of MSN begins so"),
+        (HEADER, "this is no MSN: it has no record A"),
     ),
     "msn-interchange": (
         (
@@ -133,6 +195,8 @@ BAD = {
     "alf-links": (
         (ALF + "M=WALK,O=EUS,T=10\n", "line 7: D= isn't a CRS code"),
         (ALF + "M=WALK,O=EUS,D=KGX,T=ten\n", "line 7: T= isn't minutes"),
+        ("", "this is no ALF: it has no link"),
+        ("/!! a remark\n\n", "this is no ALF: it has no link"),
     ),
 }
 
@@ -187,6 +251,9 @@ def check(counts: Counts, maker: Maker) -> None:
         ("alf-links", LINKS),
     ):
         counts.same(kind, want, outputs[kind])
+    (maker.folder / "unknown").write_text(UNKNOWN)
+    done = maker.run("naptan-places", "unknown", program="cif-gtfs-csv")
+    counts.same("unknown places", (0, OF_UNKNOWN), (done.returncode, done.stdout))
     check_places_of_master(counts, outputs["msn-places"])
     check_grid(counts)
     for words, status in (

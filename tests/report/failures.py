@@ -70,6 +70,17 @@ def check_outputs(counts: Counts, maker: Maker, old: Path, new: Path) -> None:
         counts, maker, "a CSV file as output", 2, "the place of the page", "-o", "x.csv", old, new
     )
     refused(counts, maker, "an input as output", 2, "place of an input", "-o", old, old, new)
+    with open(new, "rb") as stdin:
+        done = subprocess.run(
+            [COMPANIONS / "cif-report", "--cif", maker.cif, "-o", new, old, "-"],
+            cwd=maker.folder,
+            stdin=stdin,
+            capture_output=True,
+            text=True,
+            check=False,
+        )
+    told = f"cif-report: {new} would take the place of an input: rename one of them\n"
+    counts.same("standard input as output", (2, told), (done.returncode, done.stderr))
     copy = maker.folder / "made-up.csv"
     copy.write_bytes(new.read_bytes())
     refused(
@@ -133,6 +144,7 @@ def check_refusals(counts: Counts, maker: Maker, old: Path, new: Path) -> None:
     refused(
         counts, maker, "--most without a number", 2, "number of trains", "--most", "-1", old, new
     )
+    refused(counts, maker, "an empty title", 2, "the title is empty", "--title", " ", old, new)
     bad.write_text("tiploc,name,latitude,longitude\nBETA,,91,0\n")
     refused(counts, maker, "a bad file of places", 3, "line 2: latitude", "--places", bad, old, new)
     bad.unlink()

@@ -78,6 +78,19 @@ def check_names(counts: Counts, maker: Maker, special: Path) -> None:
     copy = maker.folder / "copy.db"
     copy.write_bytes(special.read_bytes())
     refused(counts, maker, "the extract in its place", 2, "place of an input", copy)
+    with open(copy, "rb") as stdin:
+        done = subprocess.run(
+            [COMPANIONS / "cif-sql", "--cif", maker.cif, "-o", copy, "-"],
+            cwd=maker.folder,
+            stdin=stdin,
+            capture_output=True,
+            text=True,
+            check=False,
+        )
+    told = f"cif-sql: {copy} would take the place of an input: rename one of them\n"
+    counts.same(
+        "standard input in the place of the database", (2, told), (done.returncode, done.stderr)
+    )
     copy.unlink()
     part = ("--from", "260107", "--to", "260108", "-o", "piped.db")
     counts.same("a part of the window, status", 0, maker.run(*part, special).returncode)
