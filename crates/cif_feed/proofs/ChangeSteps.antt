@@ -150,6 +150,12 @@ module _ {K I : Type 0} (same : K → K → Bool) (laws : IsEquivalence same) wh
             ap (λ v. v && is_there same records key) no ∙ ap (λ v. v && (is_there same records key || (true || false))) (sym no)
         at key false other = ap (λ v. is_changed same changes key && v) (sym (or-false (is_there same records key)))
 
+  pub says-there : (records : List (K × I)) (changes : List (ChangeParts K I)) (there : K → Option Bool)
+      → SaysAlone same records changes there → SaysThere same records changes there
+  says-there records changes there alone = record {
+    says = λ key changed. alone.says key ∙ ap (λ b. b && is_there same records key) changed;
+  }
+
   -- ---- after a change
 
   there-after : (records : List (K × I)) (c : ChangeParts K I) (key : K) (b : Bool) → same c.key key ≡ b

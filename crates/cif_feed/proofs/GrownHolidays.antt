@@ -1,7 +1,9 @@
 -- Holidays that grow by one code, and dates by one day.
-use Rattle.cif_feed.proofs.Names.{Contains, Contains-cases, Contains-first, Contains-permutation, Contains-rest, E, G, HasMore, HolidayCode}
-use Rattle.cif_feed.proofs.Names.{Holidays, IsHoliday, IsPermutation-insert, IsPermutation-sym, IsTrue, List, Names, X, dates_of, inl, inr}
-use Rattle.cif_feed.proofs.Names.{insert, refl, subst, sym, ℕ, ⊎_elim, ◌↔◌, ◌∷◌, ◌≡◌, ◌⊎◌}
+use Rattle.cif_feed.proofs.Names.{Bool, Contains, Contains-cases, Contains-first, Contains-permutation, Contains-rest, E, G, HasMore}
+use Rattle.cif_feed.proofs.Names.{HolidayCode, Holidays, IsHoliday, IsNonDecreasing, IsNonDecreasingBy-insert, IsPermutation-insert}
+use Rattle.cif_feed.proofs.Names.{IsPermutation-sym, IsTrue, List, Names, X, arith, dates_of, false, get_or_default, inl, inr, insert}
+use Rattle.cif_feed.proofs.Names.{length, refl, slice_index, subst, sym, true, ℕ, ⊎_elim, ◌<◌, ◌↔◌, ◌∷◌, ◌≡◌, ◌≤◌, ◌⊎◌}
+use Rattle.std.proofs.Common.{if◌then◌else◌}
 use Rattle.cif_feed.specs.declared.holidays.HolidayDates.{HolidayDates}
 
 -- dates with one more among them
@@ -70,3 +72,19 @@ pub others-G : (P : HolidayCode → Type 0) → P X → P E → (other : Holiday
 others-G P x e X apart = x
 others-G P x e E apart = e
 others-G P x e G apart = absurd (apart refl)
+
+-- dates rise with one more at its place
+pub rising-inserted : (xs ys : List ℕ) (i day : ℕ) (fits : Bool) → ys ≡ (if fits then insert xs i day else xs) → IsNonDecreasing xs
+    → i ≤ length xs → ((k : ℕ) → k < i → slice_index xs k < day) → ((k : ℕ) → i ≤ k → k < length xs → day ≤ slice_index xs k)
+    → IsNonDecreasing ys
+rising-inserted xs ys i day true is up within low high = rw is (IsNonDecreasingBy-insert (λ d. d) xs i day up within
+    (λ k d below. omega (arith, get_or_default xs k d 0 (omega arith), low k below))
+    (λ k d from below. omega (arith, get_or_default xs k d 0 below, high k from below)))
+rising-inserted xs ys i day false is up within low high = rw is up
+
+-- dates of which one is named again
+pub dates-there : (xs : List ℕ) (day : ℕ) → Contains xs day → (d : ℕ) → Contains xs d ↔ (Contains xs d ⊎ (d ≡ day))
+dates-there xs day there d = (
+  λ has. inl has,
+  λ has. ⊎_elim (λ old. old) (λ same. subst (λ (n : ℕ). Contains xs n) (sym same) there) has,
+)

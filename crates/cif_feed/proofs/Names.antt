@@ -13,7 +13,7 @@ pub use Rattle.std.proofs.{lemmas.Cmp.eq_by_cmp_equiv, lemmas.Simd.map-map}
 pub use Rattle.std.proofs.lemmas.List.{append_cancel_left, at_drop_more, get_or_read, map_more}
 pub use Rattle.std.proofs.lemmas.List.Elements.{All-filter, All-map, filter-append, filter_agree, filter_passes}
 pub use Rattle.std.proofs.lemmas.List.Folds.{flat_map-map, length-prefix_len, list_any_at, position_or_len_push}
-pub use Rattle.std.proofs.lemmas.List.Sorted.{IsPermutation-insert, IsPermutation-sym}
+pub use Rattle.std.proofs.lemmas.List.Sorted.{IsNonDecreasingBy-insert, IsPermutation-insert, IsPermutation-sym}
 pub use Rattle.std.proofs.lemmas.List.Sums.{count_by-le-length, fails_before_first, length-filter, passes_at_first, position_or_len_is}
 pub use Rattle.std.specs.{BTreeMap.get, Cmp.IsEquivalence, Cmp.on_equiv, List.Sorted.IsNonDecreasing, List.Sorted.IsPartitionPoint}
 pub use Rattle.std.specs.{Option.option_or, Ordering.eq_by_cmp}

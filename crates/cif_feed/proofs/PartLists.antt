@@ -503,3 +503,13 @@ module _ {E K B : Type 0} (key : E → K) (terms : E → Terms B) where
   pushed-from e first n last old new same p =
       subst (λ (m : ℕ). IsAdded (key e) (terms e) m last (records_on key terms old) (records_on key terms new)) same
       (pushed-added e first last old new p)
+
+-- a date that is left is one of them
+pub left-contains : (dates later : List ℕ) (place index date : ℕ) → later ≡ drop place dates → index < length later
+    → date ≡ get_or later index date → Contains dates date
+left-contains dates later place index date is below at =
+    let long : length later ≡ length dates - place = ap length is ∙ length-drop place dates in (
+      place + index,
+      (let there : place + index < length dates = omega arith in there),
+      sym (at ∙ ap (λ (l : List ℕ). get_or l index date) is ∙ get_or-drop place dates index date),
+    )

@@ -1,7 +1,7 @@
 -- One record more, of a key that is changed (`alone-put`) or not (`alone-other`).
-use Rattle.cif_feed.proofs.Names.{Bool, Some, [], ap, at_keys, cond, eq_by_cmp, eq_by_cmp_equiv, get, is_changed, is_some, map, on_equiv}
-use Rattle.cif_feed.proofs.Names.{same_by, subst, sym, take, true, with_keys, ◌++◌, ◌∙◌, ◌∷◌, ◌≡◌}
-use Rattle.cif_feed.proofs.ChangeSteps.{alone-other, alone-put, last-some, made-more, records-more}
+use Rattle.cif_feed.proofs.ChangeSteps.{alone-other, alone-put, last-some, made-more, records-more, says-there}
+use Rattle.cif_feed.proofs.Names.{Bool, SaysAlone, Some, [], ap, at_keys, cond, eq_by_cmp, eq_by_cmp_equiv, get, is_changed, is_some, map}
+use Rattle.cif_feed.proofs.Names.{on_equiv, same_by, subst, sym, take, take_all, true, with_keys, ◌++◌, ◌∙◌, ◌∷◌, ◌≡◌}
 use Rattle.cif_feed.proofs.changes.keys_there.Goals as goal
 use Rattle.cif_feed.proofs.changes.keys_there.Goals.{else-is_changed, then-is_changed+in_ok-insert}
 
@@ -38,3 +38,18 @@ loop-record-preserved g c =
           ∙ sym (made-more (λ (r : g.row.R.Denot). is_some (get cmp c.args.last.now (rank (key r)))) xs i x c.loop-record-test.true
           c.record-item.is),
     )
+
+pub returns-clause-there : goal.returns-clause-there
+returns-clause-there g c = λ changes last.
+    let same = same_by g.R.Rank.Ord.cmp g.R.Keyed.rank in
+    let there = at_keys g.R.Keyed.rank (get g.R.Rank.Ord.cmp c.loop-record.there) in
+    says-there same (on_equiv g.R.Keyed.rank (eq_by_cmp_equiv g.met.R.Rank.Ord.total))
+    (with_keys g.R.Keyed.key c.args.records.now) changes there
+    (subst (λ l. SaysAlone same (with_keys g.R.Keyed.key l) changes there)
+    (take_all c.loop-record.record-index c.args.records.now c.loop-record-test.false) (c.loop-record.invariant.0 changes last))
+
+pub returns-clause-changed : goal.returns-clause-changed
+returns-clause-changed g c =
+    c.loop-record.invariant.1
+    ∙ ap (map (λ (r : g.row.R.Denot). is_some (get g.R.Rank.Ord.cmp c.args.last.now (g.R.Keyed.rank (g.R.Keyed.key r)))))
+    (take_all c.loop-record.record-index c.args.records.now c.loop-record-test.false)
