@@ -321,6 +321,7 @@ def convert(
     """Writes the zip, and what belongs beside it."""
     progress.show("reading trains and associations")
     with read_timetable(extract, given.places) as timetable, new_files() as files:
+        outputs.wanted.check(timetable.places)
         stops = Stops(timetable.places)
         routes = Routes(stops)
         services = Services(timetable.window)
@@ -348,5 +349,5 @@ def convert(
             about = feed.feed_info_row(timetable.header, wishes.publisher)
             feed.write_file(archive, "feed_info", [about])
         wanted = wanted_rows(stops)
-        write_wanted(wanted, outputs.wanted, files)
+        write_wanted(wanted, outputs.wanted, timetable.places, files)
     return Outcome(len(wanted), LeftOutCounts(conversion.reader.not_for_riders, left_out))

@@ -107,6 +107,10 @@ class Places:
         """The TIPLOC of this name. Of one that the extract doesn't list no more is known."""
         return self.tiplocs.get(name) or self.add(name, "", "")
 
+    def described_name(self, name: str) -> str:
+        """The name of the station of a TIPLOC, whatever the user says."""
+        return self.siblings(self.tiploc(name))[0].description
+
     def siblings(self, tiploc: Tiploc) -> List[Tiploc]:
         """The TIPLOCs of its station, in the order of the extract."""
         return self.of_station.get(tiploc.crs) or [tiploc]

@@ -2,6 +2,7 @@
 from __future__ import annotations
 
 import csv
+import signal
 import subprocess
 import zipfile
 from collections import Counter, defaultdict
@@ -9,6 +10,7 @@ from datetime import date, timedelta
 from pathlib import Path
 from typing import (
     AbstractSet,
+    AnyStr,
     Dict,
     FrozenSet,
     Iterable,
@@ -75,6 +77,20 @@ class Source:
         return done.stdout.splitlines()
 
 
+def interrupted(process: subprocess.Popen[AnyStr], *numbers: signal.Signals) -> AnyStr:
+    """What a process prints that gets these signals. It gets them again if it goes on: Python misses a
+    signal that comes between two reads of a pipe, until there is more to read."""
+    for _ in range(6):
+        for number in numbers:
+            process.send_signal(number)
+        try:
+            return process.communicate(timeout=10)[1]
+        except subprocess.TimeoutExpired:
+            pass
+    process.kill()
+    return process.communicate()[1]
+
+
 class Maker:
     """Runs cif-gtfs in a folder."""
 
@@ -86,10 +102,15 @@ class Maker:
         call = [COMPANIONS / program, *named, *words]
         return subprocess.run(call, cwd=self.folder, capture_output=True, text=True, check=False)
 
+    def clear(self) -> None:
+        """Removes the feed and the list of places that another extract has left."""
+        for name in "feed.zip", "places-wanted.csv":
+            (self.folder / name).unlink(missing_ok=True)
+
     def feed(self, *words: Word) -> Tuple[subprocess.CompletedProcess[str], Dict[str, str]]:
         """The answer, and the files of the zip it has made, as texts by their names."""
         made = self.folder / "feed.zip"
-        made.unlink(missing_ok=True)
+        self.clear()
         done = self.run("-o", made.name, *words)
         if not made.exists():
             raise RuntimeError(f"cif-gtfs {words} ends with {done.returncode}: {done.stderr}")

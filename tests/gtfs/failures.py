@@ -24,7 +24,7 @@ from cif_shared.tables import rows_with, write_part
 
 from . import generated
 from .by_hand import uids_of
-from .checks import COMPANIONS, TOP, Counts, Maker, Word
+from .checks import COMPANIONS, TOP, Counts, Maker, Word, interrupted
 from .feeds import Feed, Shown, active_services
 
 # A generated extract, and how many of its associations stay.
@@ -238,14 +238,14 @@ def check_outputs(counts: Counts, maker: Maker, special: Path) -> None:
 
 
 # Lists of places without coordinates that somebody has filled in, or that are other files.
-LIST_HEADING = "tiploc,name,latitude,longitude,known_as\n"
+LIST_HEADING = "tiploc,name,latitude,longitude\n"
 FILLED = {
-    "coordinates": LIST_HEADING + "ALPHA,Alpha Junction,51,0,Alpha Junction\n",
-    "one coordinate": LIST_HEADING + "ALPHA,Alpha Junction,,0,Alpha Junction\n",
-    "a name": LIST_HEADING + "ALPHA,Alpha,,,Alpha Junction\nOMEGA,Omega,,,Omega\n",
-    "no name": LIST_HEADING + "ALPHA,,,,Alpha Junction\n",
-    "a remark": LIST_HEADING + "ALPHA,Alpha Junction,,,Alpha Junction,ask\n",
-    "a file of places": "tiploc,name,latitude,longitude\nALPHA,Alpha,,\n",
+    "coordinates": LIST_HEADING + "ALPHA,Alpha Junction,51,0\n",
+    "one coordinate": LIST_HEADING + "ALPHA,Alpha Junction,,0\n",
+    "a name": LIST_HEADING + "ALPHA,Alpha,,\nOMEGA,Omega,,\n",
+    "no name": LIST_HEADING + "ALPHA,,,\n",
+    "a place that the extract doesn't list": LIST_HEADING + "NOWHERE,The End,,\n",
+    "a remark": LIST_HEADING + "ALPHA,Alpha Junction,,,ask\n",
     "another file": "monday,tuesday,,\nCall Ann,,,\n",
     "no CSV": LIST_HEADING + 'ALPHA,"Alpha Junction\n',
 }
@@ -300,7 +300,7 @@ def check_wanted(counts: Counts, maker: Maker, special: Path) -> None:
         "tiploc,name,latitude,longitude\n" + "".join(f"{name},,51,-.5\n" for name in names)
     )
     renamed = maker.folder / "renamed.csv"
-    renamed.write_text(unfilled.replace(",,,", ",51,-.5,"))
+    renamed.write_text(unfilled.replace(",,", ",51,-.5"))
     done = maker.run("--places", renamed, "-o", "renamed.zip", special)
     counts.same("a list that is filled in and renamed", 0, done.returncode)
     (maker.folder / "renamed.zip").unlink()
@@ -643,8 +643,7 @@ def check_signals(counts: Counts, maker: Maker, special: Path) -> None:
             if left(maker) != before:
                 break
             time.sleep(0.05)
-        process.send_signal(number)
-        _, told = process.communicate(timeout=30)
+        told = interrupted(process, number)
         name = signal.Signals(number).name
         counts.same(
             f"stopped by {name}",
@@ -881,6 +880,7 @@ def check_rest(counts: Counts, maker: Maker) -> None:
     long = "".join(LONG.format(number=n, calls=PASSING * PASSINGS) for n in range(LONG_TRAINS))
     extract = maker.folder / "long.cif"
     extract.write_bytes(b"".join(padded(*(DIVIDING + long + "ZZ").splitlines())))
+    maker.clear()
     done = maker.run(extract)
     wanted = ["cif-gtfs: places without coordinates: 2, listed in places-wanted.csv"]
     counts.same(

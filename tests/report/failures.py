@@ -8,7 +8,7 @@ import time
 from pathlib import Path
 from typing import Callable, Dict, List, Optional
 
-from gtfs.checks import COMPANIONS, Counts, Word
+from gtfs.checks import COMPANIONS, Counts, Word, interrupted
 from gtfs.failures import FAILING
 
 from .by_hand import extract, june
@@ -209,10 +209,7 @@ def check_signals(counts: Counts, maker: Maker, old: Path, new: Path) -> None:
                 break
             time.sleep(0.05)
         reached.unlink()
-        process.send_signal(number)
-        process.wait(timeout=30)
-        assert process.stderr is not None
-        process.stderr.close()
+        interrupted(process, number)
         name = signal.Signals(number).name
         counts.same(f"stopped by {name}, status", 4, process.returncode)
         counts.test(f"stopped by {name}, the files", before == files_in(maker.folder))

@@ -13,7 +13,7 @@ from contextlib import closing
 from pathlib import Path
 from typing import Callable, Dict, List, Optional, Set, Tuple, Union
 
-from gtfs.checks import COMPANIONS, Counts, Word
+from gtfs.checks import COMPANIONS, Counts, Word, interrupted
 from gtfs.failures import FAILING
 
 from .checks import Maker, sqlite_rows
@@ -282,6 +282,9 @@ def check_signals(counts: Counts, maker: Maker, special: Path) -> None:
     failing = failing_cif(maker, "calls", "touch reached; exec sleep 20")
     before, reached = left(maker), maker.folder / "reached"
     words: List[Word] = [
+        # what runs in the background may have interrupts ignored
+        "env",
+        "--default-signal",
         COMPANIONS / "cif-sql",
         "--cif",
         failing.cif,
@@ -302,9 +305,7 @@ def check_signals(counts: Counts, maker: Maker, special: Path) -> None:
                 break
             time.sleep(0.05)
         reached.unlink()
-        for each in numbers:
-            process.send_signal(each)
-        _, printed = process.communicate(timeout=30)
+        printed = interrupted(process, *numbers)
         name = " and ".join(signal.Signals(each).name for each in numbers)
         status = -number if number == signal.SIGKILL else 4
         if number != signal.SIGKILL:
@@ -345,7 +346,11 @@ def check_writers(counts: Counts, maker: Maker, special: Path) -> None:
         special,
     ]
     killed = "the process that writes the database ended early"
-    for number, told in (signal.SIGKILL, killed), (signal.SIGSTOP, "interrupted by SIGTERM"):
+    stopped = "interrupted by SIGTERM"
+    for number, signals, told in (
+        (signal.SIGKILL, (), killed),
+        (signal.SIGSTOP, (signal.SIGTERM,), stopped),
+    ):
         for writer in range(WRITERS):
             with subprocess.Popen(
                 words, cwd=maker.folder, stderr=subprocess.PIPE, text=True
@@ -355,13 +360,9 @@ def check_writers(counts: Counts, maker: Maker, special: Path) -> None:
                 writers = writers_of(process)
                 counts.same("processes that write", WRITERS, len(writers))
                 os.kill(writers[writer], number)
-                if number == signal.SIGSTOP:
-                    process.send_signal(signal.SIGTERM)
-                try:
-                    _, printed = process.communicate(timeout=30)
-                except subprocess.TimeoutExpired:
+                printed = interrupted(process, *signals)
+                if process.returncode == -signal.SIGKILL:
                     os.kill(writers[writer], signal.SIGCONT)
-                    printed = "nothing for 30 seconds"
             (maker.folder / "reached").unlink()
             name = f"writer {writer} gets {signal.Signals(number).name}"
             counts.same(name, (4, f"cif-sql: {told}\n"), (process.returncode, printed))
