@@ -2,8 +2,7 @@
 use Rattle.cif_calendar.proofs.Names.{Bool, Contains, List, Piece, Tiles, [], ap, arith, cond, false, get_or, length, ltb, ltb-false}
 use Rattle.cif_calendar.proofs.Names.{ltb-true, refl, source_at, suc, sym, true, winner_of, zero, ℕ, ⊎_elim, ◌++◌, ◌+◌, ◌<◌, ◌∙◌, ◌∷◌, ◌≡◌}
 use Rattle.cif_calendar.proofs.Names.{◌≤◌}
-use Rattle.std.proofs.lemmas.Bool.Decides.{leb_tells}
-use Rattle.std.specs.List.Sorted.{IsNonDecreasingBy, IsPartitionPoint}
+use Rattle.std.{proofs.lemmas.Bool.Decides.leb_tells, specs.List.Sorted.IsNonDecreasingBy, specs.List.Sorted.IsPartitionPoint}
 use Rattle.cif_calendar.proofs.Elements.{Contains-cases, Contains-first, Contains-rest}
 
 pub tiles-push : (ps : List Piece) (a b : ℕ) (p : Piece) → Tiles ps a b → p.first ≡ b → p.first ≤ p.last →

@@ -1,7 +1,6 @@
 -- When two lists of records say the same.
 use Rattle.cif_calendar.proofs.Names.{AreLawful, BodyRuns, List, Terms, of_key, ℕ, ◌↔◌, ◌≤◌}
-use Rattle.cif_calendar.proofs.Meaning.{Runs-from_bodies}
-use Rattle.cif_calendar.specs.Meaning.{EntriesSayTheSame}
+use Rattle.cif_calendar.{proofs.Meaning.Runs-from_bodies, specs.Meaning.EntriesSayTheSame}
 
 module _ {K B : Type 0} where
   pub EntriesSayTheSame-refl : (xs : List (K × Terms B)) (first last : ℕ) → EntriesSayTheSame xs xs first last

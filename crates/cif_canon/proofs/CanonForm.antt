@@ -6,11 +6,10 @@ use Rattle.cif_canon.proofs.Names.{extract_text, header_window, key_cmp, length,
 use Rattle.cif_canon.proofs.Names.{text-spells, window_from, ℕ, ◌∙◌, ◌≡◌}
 use Rattle.cif_extract.specs.declared.fault.Clash.TheVariants as named
 use Rattle.cif_extract.specs.declared.fault.Fault.TheVariants as fault
-use Rattle.cif_canon.proofs.{CanonLines.written-lines, MadeFits.made-fits}
+use Rattle.cif_canon.{proofs.CanonLines.written-lines, proofs.MadeFits.made-fits, specs.Counts.counts_of}
 use Rattle.cif_canon.proofs.CanonTexts.{have-records, number-of_associations, number-of_schedules, written-text}
 use Rattle.cif_canon.proofs.KeptExtract.{canonical_of, dated-associations, dated-schedules, is-canonical, same-meaning}
 use Rattle.cif_canon.proofs.NormalForms.{its-own, normal-unique, reached}
-use Rattle.cif_canon.specs.Counts.{counts_of}
 
 -- what is said of a slice's entries, in the window of these dates, is said of those of a list, in the header's window
 pub of_slice : {X : Type 0} (says : Window → List X → Type 0) (h : Header) (first last : ℕ) (xs ys : List X) →

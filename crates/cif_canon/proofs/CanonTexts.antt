@@ -5,10 +5,9 @@ use Rattle.cif_canon.proofs.Names.{association_entries, association_run_text, as
 use Rattle.cif_canon.proofs.Names.{flat_map-append, header_table, header_window, key_cmp, length, line_of_association, line_of_tiploc}
 use Rattle.cif_canon.proofs.Names.{lines_text, map, nat_cmp, plain_line, plain_lines_of, record_at, refl, schedule_entries, schedule_lines}
 use Rattle.cif_canon.proofs.Names.{schedule_run_text, schedule_text, slice_cmp, suc, sym, text_if, tiploc_text, trailer_table, ℕ, ◌++◌, ◌∙◌}
-use Rattle.cif_canon.proofs.Names.{◌∷◌, ◌≡◌}
+use Rattle.cif_canon.{proofs.Names.◌∷◌, proofs.Names.◌≡◌, proofs.RunTexts.record-of_run}
 use Rattle.cif_canon.proofs.KeptExtract.{canonical_of, dated-associations, dated-schedules}
 use Rattle.cif_canon.proofs.MadeExtract.{IsDated, associations_of, schedule_of, schedules_of}
-use Rattle.cif_canon.proofs.RunTexts.{record-of_run}
 
 -- ---- the runs of records
 

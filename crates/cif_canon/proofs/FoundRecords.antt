@@ -12,8 +12,7 @@ use Rattle.cif_canon.proofs.Names.{⊎_elim, ◌++◌, ◌<◌, ◌↔◌, ◌�
 use Rattle.cif_canon.proofs.ComparedKeys.{ArePassed, AreTurns, IsLeft, nobody, pass, passed-nothing, turns}
 use Rattle.cif_canon.proofs.KeyRecords.{bodies-other, bodies-own, zip-keyed}
 use Rattle.cif_canon.proofs.MergedSides.{at_other, by-side, from-side, of_side-append, other, pairs-head, side-member}
-use Rattle.cif_canon.proofs.OnlyRuns.{pairs-zip}
-use Rattle.cif_canon.specs.declared.differing.Extent.{Extent}
+use Rattle.cif_canon.{proofs.OnlyRuns.pairs-zip, specs.declared.differing.Extent.Extent}
 
 -- the runs are those of the canonical records of what only the first list says of key k
 abbrev pub AreOnlyOfKey : {K B : Type 0} → Window → List (K × Terms B) → List (K × Terms B) → K → List Run → Type 0

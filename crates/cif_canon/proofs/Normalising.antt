@@ -7,10 +7,9 @@ use Rattle.cif_canon.proofs.Names.{IsReadNarrowedFault, List, Makes, MatchResult
 use Rattle.cif_canon.proofs.Names.{SpellsNarrowed, Train, Unread, [], ap, arith, at-fault, checking, extract_parts, false}
 use Rattle.cif_canon.proofs.Names.{first_clash-clear, inr, is_read, known_so, normalising, of_any, one_spelled, reading_canon}
 use Rattle.cif_canon.proofs.Names.{reading_extract, reading_narrowed, refl, spelled-refused, subst, sym, window_asked, ℕ, ⊎_elim, ◌∙◌, ◌≡◌}
-use Rattle.cif_canon.proofs.Names.{◌≢◌, ◌≤◌}
+use Rattle.cif_canon.{proofs.Names.◌≢◌, proofs.Names.◌≤◌, proofs.NormalForms.one-narrowed}
 use Rattle.cif_extract.specs.declared.fault.Clash.TheVariants.{Association}
 use Rattle.cif_extract.specs.declared.fault.Fault.TheVariants as fault
-use Rattle.cif_canon.proofs.NormalForms.{one-narrowed}
 
 module _ (max : ℕ) (asked : Asked) (bytes : List ℕ) where
   -- a window that can't be asked for

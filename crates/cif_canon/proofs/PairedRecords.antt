@@ -4,8 +4,7 @@ use Rattle.cif_canon.proofs.Names.{Permanent, Right, Run, Sided, Some, Terms, []
 use Rattle.cif_canon.proofs.Names.{get_or, if◌then◌else◌, is_eq, length, length-drop, pointwise_decides, record_at, refl, same_from_decides}
 use Rattle.cif_canon.proofs.Names.{sided_records, sym, take, take_all, true, with_record, ◌-◌, ◌<◌, ◌↔◌, ◌∙◌, ◌∷◌, ◌≡◌}
 use Rattle.std.specs.Cmp.{booleans_Decides}
-use Rattle.cif_canon.proofs.MergedSides.{side-decided}
-use Rattle.cif_canon.specs.Steps.ByPairs.{IsFirstListed, IsListedFirst}
+use Rattle.cif_canon.{proofs.MergedSides.side-decided, specs.Steps.ByPairs.IsFirstListed, specs.Steps.ByPairs.IsListedFirst}
 
 -- ---- the test of a pair
 

@@ -2,8 +2,7 @@
 use Rattle.cif_canon.proofs.Names.{Agree, AssocBody, AssocKey, BodyLines, ExtractParts, Header, List, SameMeaning, Schedule, Terms, Window}
 use Rattle.cif_canon.proofs.Names.{ap, association_entries, association_entry, header_window, same_header, same_values, schedule_entries}
 use Rattle.cif_canon.proofs.Names.{schedule_entry, subst, sym, ℕ, ◌∙◌, ◌≡◌}
-use Rattle.cif_records.proofs.Associations.{same_association}
-use Rattle.cif_records.specs.declared.association.Association.{Association}
+use Rattle.cif_records.{proofs.Associations.same_association, specs.declared.association.Association.Association}
 use Rattle.cif_extract.proofs.Schedules.{same_schedule}
 use Rattle.cif_calendar.proofs.SayTheSame.{EntriesSayTheSame-refl, EntriesSayTheSame-sym, EntriesSayTheSame-trans}
 

@@ -2,10 +2,9 @@
 use Rattle.cif_columns.proofs.Names.{AnswersNext, AreUndecided, Content, ContentReader, CutsNext, DecideNoContent, Err, GivenDecideContent}
 use Rattle.cif_columns.proofs.Names.{GivenDecided, IsNextWithin, List, Most, NextContent, Of, Ok, Option, Overlong, Read, ReadFault}
 use Rattle.cif_columns.proofs.Names.{Refused, Source, TooManyLines, ap, arith, content, length, most_by, most_of, refl, ℕ, ◌+◌, ◌<◌, ◌≡◌}
-use Rattle.cif_columns.proofs.Names.{◌≢◌}
-use Rattle.cif_columns.proofs.{FirstContents.first_some, GivenLinesLaws.known_so}
+use Rattle.cif_columns.{proofs.Names.◌≢◌, proofs.FirstContents.first_some, proofs.GivenLinesLaws.known_so}
+use Rattle.cif_columns.{specs.declared.ahead.NextContent.TheVariants.End}
 use Rattle.cif_columns.specs.ContentReader.{given, held, left, limit}
-use Rattle.cif_columns.specs.declared.ahead.NextContent.TheVariants.{End}
 
 -- what decides a content decides it where so many may come
 pub given_decide : {most m : Most} {max count : ℕ} {bytes unread : Option (List ℕ)}

@@ -1,9 +1,7 @@
 -- One value stands in columns of a kind of field.
 use Rattle.cif_columns.proofs.Names.{Bool, List, Some, Stp, [], date, exactly, indicator, letter, refl, stp_in, sym, text, weekdays, ℕ, ◌∙◌}
-use Rattle.cif_columns.proofs.Names.{◌∷◌, ◌≡◌}
+use Rattle.cif_columns.{proofs.Names.◌∷◌, proofs.Names.◌≡◌, proofs.Texts.one_text, specs.Field.StandsIn}
 use Rattle.cif_columns.proofs.{DayColumns.yymmdd_in-stands, Letters.one_indicator as one_letter, Letters.stp_in-stands, Masks.one_mask}
-use Rattle.cif_columns.proofs.{Texts.one_text}
-use Rattle.cif_columns.specs.Field.{StandsIn}
 
 pub one_exactly : (columns a b : List ℕ) → StandsIn columns (exactly a) → StandsIn columns (exactly b) → a ≡ b
 one_exactly columns a b p q = sym p ∙ q

@@ -8,8 +8,7 @@ use Rattle.cif_columns.proofs.Names.{length-take, lines, lines_of_parts, map, mo
 use Rattle.cif_columns.proofs.Names.{slice_split, strip_carriage_return, subst, suc, sym, take, take-append-drop, take-append-le, take-take}
 use Rattle.cif_columns.proofs.Names.{take_all, true, zero, ℕ, ⊎_elim, ◌++◌, ◌+◌, ◌-◌, ◌<◌, ◌==◌, ◌∙◌, ◌∷◌, ◌≡◌, ◌≢◌, ◌≤◌, ◌⊎◌}
 use Rattle.std.proofs.lemmas.List.Splits.{slice_split_at, slice_split_none}
-use Rattle.cif_columns.proofs.{Comments.begins_kept, WholeLines.lines_to_feed}
-use Rattle.cif_columns.specs.declared.ahead.NextContent.TheVariants.{End}
+use Rattle.cif_columns.{proofs.Comments.begins_kept, proofs.WholeLines.lines_to_feed, specs.declared.ahead.NextContent.TheVariants.End}
 
 -- ---- parts
 

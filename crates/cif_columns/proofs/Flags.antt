@@ -3,10 +3,9 @@ use Rattle.cif_columns.proofs.Names.{Bool, IsFirstOf, IsLastOf, IsTrue, List, Ru
 use Rattle.cif_columns.proofs.Names.{bits_of-flags, cases_lt, cond, false, flag, flags, get_or, get_or_default, inl, inr, leading_top}
 use Rattle.cif_columns.proofs.Names.{length, nat_eq, nat_tests, refl, same_Some, same_lists, slice_get, slice_get_within, subst, suc, sym}
 use Rattle.cif_columns.proofs.Names.{true, w8, zero, ℕ, ⊎_elim, ◌%◌, ◌*◌, ◌+◌, ◌-◌, ◌/◌, ◌<◌, ◌^◌, ◌↔◌, ◌∙◌, ◌∷◌, ◌≡◌, ◌≢◌, ◌≤◌, ◌⊎◌}
-use Rattle.std.proofs.Math.Nat.{pow-le-pow_right}
+use Rattle.std.{proofs.Math.Nat.pow-le-pow_right, proofs.lemmas.Nat.Bits.shr_and_one}
 use Rattle.std.proofs.lemmas.Nat.Bits.{bit_at-lt, bit_at-pow_other, bit_at-pow_same, bit_at-trailing_zeros, bit_at_above, bit_at_and}
 use Rattle.std.proofs.lemmas.Nat.Bits.{bit_at_cat_high, bit_at_mask_above, bit_at_mask_below, bit_at_mask_inside, bit_at_not, bit_at_or}
-use Rattle.std.proofs.lemmas.Nat.Bits.{shr_and_one}
 use Rattle.std.specs.Int.{bit_at, leading_zeros, trailing_zeros}
 
 -- what holds of each of the numbers below seven

@@ -8,12 +8,11 @@ use Rattle.cif_columns.proofs.Names.{reader_of, refl, source_ended, strip_carria
 use Rattle.cif_columns.proofs.Names.{◌||◌, ◌∙◌, ◌∷◌, ◌≡◌, ◌≢◌, ◌≤◌, ◌⊎◌}
 use Rattle.cif_columns.proofs.ContentRuns.{HasGiven, at_limits, given_all, given_so, given_within}
 use Rattle.cif_columns.proofs.FirstContents.{content_at_end, content_before, feed_or_none, kept_left, one_part, overlong_part, part_before}
-use Rattle.cif_columns.proofs.FirstContents.{some_content}
+use Rattle.cif_columns.{proofs.FirstContents.some_content, specs.declared.ahead.NextContent.TheVariants.End}
 use Rattle.cif_columns.proofs.GivenLinesLaws.{contents_given, given_front, held_front, known_so, none_given, whole_more}
 use Rattle.cif_columns.proofs.WholeLines.{ends_before, lines_of_parts-append, lines_to_feed, parts_some, split_at_feed}
 use Rattle.cif_columns.specs.ContentReader.{given, held, left, limit}
 use Rattle.cif_columns.specs.JudgedContents.{IsGiven, MayGoOn, has_overlong, is_overlong, judged_contents, parts_of, up_to_overlong}
-use Rattle.cif_columns.specs.declared.ahead.NextContent.TheVariants.{End}
 
 -- ---- whole contents, none of which is overlong
 

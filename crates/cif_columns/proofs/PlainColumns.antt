@@ -4,10 +4,8 @@ use Rattle.cif_columns.proofs.Names.{codes_columns, codes_in, columns, date, dro
 use Rattle.cif_columns.proofs.Names.{is_whole_from, left_justified, length, length-append, length-drop, length-replicate, nat_eq, nat_tests}
 use Rattle.cif_columns.proofs.Names.{nil_from_length, plain_columns, plain_line, public_time, refl, replicate, spare, subst, suc, sym}
 use Rattle.cif_columns.proofs.Names.{take-append-drop, text, text_of, true, weekdays, working_time, zero, ℕ, ◌&&◌, ◌++◌, ◌+◌, ◌-◌, ◌∙◌, ◌∷◌}
-use Rattle.cif_columns.proofs.Names.{◌≡◌, ◌≤◌}
+use Rattle.cif_columns.{proofs.Names.◌≡◌, proofs.Names.◌≤◌, proofs.Texts.is_text_of, proofs.Texts.trim-text, specs.Field.StandsIn}
 use Rattle.cif_columns.proofs.{Codes.codes_in-stands, DayDigits.yymmdd_of-stands, Masks.days_columns-stands, Parts.whole-first}
-use Rattle.cif_columns.proofs.{Texts.is_text_of, Texts.trim-text}
-use Rattle.cif_columns.specs.Field.{StandsIn}
 
 -- blank columns are spaces
 pub spaces-blank : (c : List ℕ) → is_blank c ≡ true → replicate (length c) 32 ≡ c

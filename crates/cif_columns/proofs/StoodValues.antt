@@ -2,11 +2,9 @@
 use Rattle.cif_columns.proofs.Names.{AllFit, AllStandIn, AreCodes, Bool, FieldValue, Fits, IsLine, IsPublicTime, IsWorkTime, List, Row, []}
 use Rattle.cif_columns.proofs.Names.{activity_codes, and_parts, arith, columns, date, eqb-true, exactly, indicator, is_whole_from, length}
 use Rattle.cif_columns.proofs.Names.{public_time, spare, subst, text, true, weekdays, width_of, working_time, ℕ, ◌&&◌, ◌+◌, ◌-◌, ◌==◌, ◌∷◌}
-use Rattle.cif_columns.proofs.Names.{◌≡◌, ◌≤◌}
+use Rattle.cif_columns.{proofs.Names.◌≡◌, proofs.Names.◌≤◌, proofs.PlainColumns.whole-within, specs.Field.StandsIn}
 use Rattle.cif_columns.proofs.{Codes.are_codes-codes_in, Codes.codes_in-stands, DayDigits.is_day-yymmdd, Parts.whole-first}
-use Rattle.cif_columns.proofs.{PlainColumns.whole-within}
 use Rattle.cif_columns.proofs.PlainLines.{fits-exactly_at, fits-text_at, length-columns, printable-columns}
-use Rattle.cif_columns.specs.Field.{StandsIn}
 
 -- a value of this kind can take so many columns
 abbrev pub has_width : ℕ → FieldValue → Bool

@@ -3,8 +3,7 @@ use Rattle.cif_columns.proofs.Names.{AllStandIn, FieldValue, List, Option, Row, 
 use Rattle.cif_columns.proofs.Names.{days_of, exactly, indicator, option_map, public_time, refl, slice_index, spare, stp_in, sym, text}
 use Rattle.cif_columns.proofs.Names.{text_of, weekdays, working_time, yymmdd_in, ℕ, ◌∙◌, ◌∷◌, ◌≡◌}
 use Rattle.cif_columns.proofs.{Codes.codes_in-stands, DayColumns.yymmdd_in-stands, FieldLaws.stp_in-letter, Masks.days_of-stands}
-use Rattle.cif_columns.proofs.{Texts.trim-text}
-use Rattle.cif_columns.specs.Field.{StandsIn}
+use Rattle.cif_columns.{proofs.Texts.trim-text, specs.Field.StandsIn}
 
 -- the value in columns, of the same kind as this one
 abbrev pub read_as : FieldValue → List ℕ → Option FieldValue

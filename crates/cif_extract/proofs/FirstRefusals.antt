@@ -8,8 +8,7 @@ use Rattle.cif_extract.proofs.Names.{ne_eqb, of_line_fault, order_refusal, place
 use Rattle.cif_extract.proofs.Names.{subst, sym, take, take-append-le, take-append_seam, true, with_rest, ℕ, ◌++◌, ◌+◌, ◌<◌, ◌∙◌, ◌∷◌, ◌≡◌}
 pub use Rattle.std.proofs.lemmas.Bool.{false_from_ne_true as not_true}
 use Rattle.std.specs.Option.{option_or}
-use Rattle.cif_columns.proofs.PrintableBytes.{printable_true}
-use Rattle.cif_columns.specs.declared.line_reader.LineReader.{LineReader}
+use Rattle.cif_columns.{proofs.PrintableBytes.printable_true, specs.declared.line_reader.LineReader.LineReader}
 use Rattle.cif_columns.specs.declared.refusal.LineFault.TheVariants as line_fault
 use Rattle.cif_columns.specs.declared.refusal.Refusal.TheVariants as refusal
 use Rattle.cif_records.proofs.Judging.{none-some}

@@ -8,10 +8,9 @@ use Rattle.cif_extract.proofs.Names.{◌∙◌, ◌∷◌, ◌≡◌}
 use Rattle.cif_records.proofs.Records.{kind_of as record_kind}
 use Rattle.cif_records.specs.declared.record.Record.TheVariants as of
 use Rattle.cif_extract.proofs.{GrammarLists.behind_schedules, GrammarLists.schedules_more, KeptLines.journey-whole, KeptLines.keep_body}
-use Rattle.cif_extract.proofs.{Schedules.closed_some, WrittenLines.kept_plain}
+use Rattle.cif_extract.{proofs.Schedules.closed_some, proofs.WrittenLines.kept_plain, specs.Steps.Reading.kept}
 use Rattle.cif_extract.proofs.ReadingSteps.{association_where, header_where, own_at, tiploc_where, trailer_step}
 use Rattle.cif_extract.proofs.ScheduleSteps.{Again, basic_step, call_where, extra_where, origin_where}
-use Rattle.cif_extract.specs.Steps.Reading.{kept}
 use Rattle.cif_extract.specs.declared.place.Place.TheVariants as at
 
 module _ (records : List Record) (p : Progress) (t : Terminus) where

@@ -4,11 +4,10 @@ use Rattle.cif_extract.proofs.Names.{IsCancelled, IsKeepable, IsOpened, IsWithin
 use Rattle.cif_extract.proofs.Names.{Record, Schedule, Some, [], after_extra, ap, append_assoc, begun_journey, call_record, detail_table}
 use Rattle.cif_extract.proofs.Names.{extra_records, has_body, inl, inr, is_some, may_stand, parts_with_header, plain_line, record_table}
 use Rattle.cif_extract.proofs.Names.{records_before_trailer, refl, step, subst, sym, terms_of, true, true≢false, ℕ, ⊎_elim, ◌++◌, ◌∙◌, ◌∷◌}
-use Rattle.cif_extract.proofs.Names.{◌≡◌, ◌⊎◌}
+use Rattle.cif_extract.{proofs.Names.◌≡◌, proofs.Names.◌⊎◌, proofs.KeptLines.journey-more, proofs.KeptLines.kept-more}
+use Rattle.cif_extract.{specs.Steps.Reading.begun, specs.Steps.Reading.kept}
 use Rattle.cif_records.specs.declared.record.Record.TheVariants as of
-use Rattle.cif_extract.proofs.KeptLines.{journey-more, kept-more}
 use Rattle.cif_extract.proofs.ReadingSteps.{AreClosed, closed_where, own_at}
-use Rattle.cif_extract.specs.Steps.Reading.{begun, kept}
 use Rattle.cif_extract.specs.declared.place.Place.TheVariants as at
 
 -- the plain line of the record spells it

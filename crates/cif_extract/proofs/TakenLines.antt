@@ -6,8 +6,7 @@ use Rattle.cif_extract.proofs.Names.{kind_in, may_stand, no_refusal, order_refus
 use Rattle.cif_extract.proofs.Names.{refl, refusal_at, step, subst, sym, true, with_kept, ℕ, ◌∙◌, ◌∷◌, ◌≡◌, ◌≢◌}
 use Rattle.cif_records.proofs.Records.{kind_of as record_kind, kind_there as spelled_kind}
 use Rattle.cif_records.specs.declared.record.Record.TheVariants as of
-use Rattle.cif_extract.proofs.FirstRefusals.{or_none}
-use Rattle.cif_extract.specs.Steps.Reading.{kept}
+use Rattle.cif_extract.{proofs.FirstRefusals.or_none, specs.Steps.Reading.kept}
 use Rattle.cif_extract.specs.declared.place.Place.TheVariants as at
 use Rattle.cif_extract.specs.declared.reading.TakeFault.TheVariants as untaken
 

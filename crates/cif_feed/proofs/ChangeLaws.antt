@@ -4,9 +4,7 @@ use Rattle.cif_feed.proofs.Names.{None, Option, Ordering, RecordChange, Some, Te
 use Rattle.cif_feed.proofs.Names.{append_assoc, changes_of, cond, eq_by_cmp, false, filter, filter-append, filter_agree, is_changed}
 use Rattle.cif_feed.proofs.Names.{is_there, key_of, keyed_record, last_word, not, option_to_list, put_last, put_of, refl, refusal, refusals}
 use Rattle.cif_feed.proofs.Names.{same_by, same_values, sym, true, untouched, with_keys, without_key, ◌&&◌, ◌++◌, ◌||◌, ◌↔◌, ◌∙◌, ◌∷◌, ◌≡◌}
-use Rattle.cif_feed.proofs.Names.{◌≢◌}
-use Rattle.cif_feed.proofs.ListSteps.{filter-map}
-use Rattle.cif_feed.specs.Changes.{of_key}
+use Rattle.cif_feed.{proofs.Names.◌≢◌, proofs.ListSteps.filter-map, specs.Changes.of_key}
 use Rattle.cif_feed.specs.declared.changes.Action.TheVariants.{Deleted, New, Revised}
 
 module _ {A : Type 0} where

@@ -10,9 +10,8 @@ use Rattle.cif_feed.proofs.Names.{◌+◌, ◌==◌, ◌∙◌, ◌≡◌, ◌�
 use Rattle.cif_extract.specs.Clash.{clash_text}
 use Rattle.cif_extract.specs.declared.fault.Clash.TheVariants as clash
 use Rattle.cif_calendar.specs.Ranks.{IsNumberOf}
-use Rattle.cif_feed.proofs.CutCounts.{count-map, count-same}
+use Rattle.cif_feed.{proofs.CutCounts.count-map, proofs.CutCounts.count-same, specs.Dropped.reported_as}
 use Rattle.cif_feed.proofs.PreparedRuns.{closed-associations, closed-schedules, cut-prepared, cut-whole}
-use Rattle.cif_feed.specs.Dropped.{reported_as}
 
 -- what is found in records that are those of an extract, in the window of its header
 found-in : {R K B : Type 0} (h : Holidays) (cmp : K → K → Ordering) (name : K → ℕ → Clash) (stands_for : R → K → Type 0)

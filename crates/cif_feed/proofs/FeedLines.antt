@@ -11,17 +11,15 @@ use Rattle.cif_feed.proofs.Names.{kind_of, kind_read_as, length, letter_cancels,
 use Rattle.cif_feed.proofs.Names.{one_weekdays, open_dates_refusal, or-true, printable_fact, put_association_rows, put_basic_front}
 use Rattle.cif_feed.proofs.Names.{put_basic_rows, record_table, refl, spare, stp_in-letter, subst, sym, terms_of, transaction_at}
 use Rattle.cif_feed.proofs.Names.{transaction_letter, true, weekdays, yymmdd_in-stands, ℕ, ◌++◌, ◌||◌, ◌∙◌, ◌∷◌, ◌≡◌, ◌≤◌}
-use Rattle.cif_columns.proofs.DayDigits.{is_day-yymmdd}
+use Rattle.cif_columns.{proofs.DayDigits.is_day-yymmdd, specs.Stp.letter}
 use Rattle.cif_columns.proofs.StoodValues as stood
-use Rattle.cif_columns.specs.Stp.{letter}
 use Rattle.cif_records.proofs.Associations as associations
 use Rattle.cif_records.proofs.Basics as basics
 use Rattle.cif_records.proofs.Headers as headers
-use Rattle.cif_records.proofs.{Identities.only_kind, Rows.◌&◌}
+use Rattle.cif_records.{proofs.Identities.only_kind, proofs.Rows.◌&◌, specs.Kind.identity}
 use Rattle.cif_records.proofs.Records as records
 use Rattle.cif_records.proofs.Tiplocs as tiplocs
 use Rattle.cif_records.specs.Checks.{are, date_refusal, letter_refusal}
-use Rattle.cif_records.specs.Kind.{identity}
 use Rattle.cif_records.specs.declared.record.Record.TheVariants as of
 use Rattle.cif_extract.specs.Layouts.{cancels}
 use Rattle.cif_feed.specs.declared.feed_line.Feed.TheVariants.{Update}

@@ -16,13 +16,11 @@ use Rattle.cif_feed.proofs.Names.{put_basic_front, put_basic_rows, read_as, reco
 use Rattle.cif_feed.proofs.Names.{refused_so, schedule_mark, slice_index, step, subst, sym, take, take-take, taken_behind, tiploc_mark}
 use Rattle.cif_feed.proofs.Names.{transaction_as, transaction_at, true, unless, with_counts, with_line, with_passed, ℕ, ◌&&◌, ◌++◌, ◌+◌}
 use Rattle.cif_feed.proofs.Names.{◌==◌, ◌||◌, ◌∙◌, ◌∷◌, ◌≡◌, ◌≤◌}
-use Rattle.cif_records.proofs.{Basics.detail_read, Records.kind_there}
+use Rattle.cif_records.{proofs.Basics.detail_read, proofs.Records.kind_there, specs.Checks.are}
 use Rattle.cif_records.proofs.Details.{basic_with, stands_by, stands_with}
-use Rattle.cif_records.specs.Checks.{are}
 use Rattle.cif_records.specs.declared.record.Record.TheVariants as of
-use Rattle.cif_extract.proofs.Places.{fine_here}
+use Rattle.cif_extract.{proofs.Places.fine_here, specs.declared.reading.TakeFault.TheVariants.Memory}
 use Rattle.cif_extract.specs.Steps.Reading as read
-use Rattle.cif_extract.specs.declared.reading.TakeFault.TheVariants.{Memory}
 use Rattle.cif_feed.proofs.{FeedLines.feed_are, FeedLines.kind_there as feed_kind, ListSteps.enumerate_append}
 use Rattle.cif_feed.specs.{FeedLine.column, Marks.put_mark, Marks.record_mark, Steps.FeedLine.ReadsBasic, Transaction.transaction_in}
 use Rattle.cif_feed.specs.declared.{feed_line.Feed.TheVariants.Update, mark.Passed.Passed, mark.RecordMark.RecordMark}

@@ -10,8 +10,7 @@ use Rattle.std.specs.Map.{lookup}
 use Rattle.cif_calendar.proofs.KeyTurns.{decided, first-leads, no-entry, one-key, rising-after}
 use Rattle.cif_calendar.proofs.PassedKeys.{HasPassed, key-or-later, later-less, left-before, passed-more, turn}
 use Rattle.cif_calendar.specs.Keys.{of_key}
-use Rattle.cif_feed.proofs.CountedClashes.{counted-days}
-use Rattle.cif_feed.specs.Dropped.{reported_as}
+use Rattle.cif_feed.{proofs.CountedClashes.counted-days, specs.Dropped.reported_as}
 
 -- a key is reported by its first position
 pub key-reported : {A K B R : Type 0} (h : Holidays) (key : A → K) (terms : A → Terms B) (published : A → PublishedTerms B)

@@ -19,9 +19,8 @@ use Rattle.memchr.specs.Find.{IsFirstByte, is_byte}
 use Rattle.cif_columns.specs.ContentReader.{given, left}
 use Rattle.cif_columns.specs.declared.ahead.NextContent.TheVariants.{Content, End, Overlong}
 use Rattle.cif_columns.specs.declared.refusal.LineFault.TheVariants as line_fault
-use Rattle.cif_feed.proofs.ListSteps.{iff-by}
-use Rattle.cif_feed.specs.{HolidayCode.letter, HolidayText.of_line_fault}
-use Rattle.cif_feed.specs.declared.holiday_text.HolidayFault.{HolidayFault}
+use Rattle.cif_feed.{proofs.ListSteps.iff-by, specs.HolidayCode.letter, specs.HolidayText.of_line_fault}
+use Rattle.cif_feed.{specs.declared.holiday_text.HolidayFault.HolidayFault}
 use Rattle.cif_feed.specs.declared.holiday_text.HolidayFault.TheVariants.{BadHoliday, Memory, Read}
 
 -- ---- words

@@ -14,9 +14,7 @@ use Rattle.cif_feed.proofs.Names.{unless, unread_of, ℕ, ⊎_elim, ◌++◌, �
 use Rattle.cif_columns.specs.JudgedContents.{IsGiven, MayGoOn, has_overlong, is_overlong, judged_contents, parts_of}
 use Rattle.cif_columns.specs.declared.refusal.LineFault.TheVariants as line_fault
 use Rattle.cif_columns.specs.declared.refusal.Refusal.TheVariants as refusal
-use Rattle.cif_extract.proofs.OrderLaws.{spelled_fine}
-use Rattle.cif_extract.specs.Fault.{of_line_fault}
-use Rattle.cif_extract.specs.declared.fault.Fault.{Fault}
+use Rattle.cif_extract.{proofs.OrderLaws.spelled_fine, specs.Fault.of_line_fault, specs.declared.fault.Fault.Fault}
 use Rattle.cif_extract.specs.declared.fault.Fault.TheVariants as fault
 use Rattle.cif_feed.proofs.ReportedReasons.{judged_line, own_none, own_of_line, reasons_of_more, refused_number, report_nothing}
 use Rattle.cif_feed.specs.declared.{judged.Judged.Judged, judged.Judging.Judging, judged.Order.Order}

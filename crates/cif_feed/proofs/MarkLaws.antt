@@ -5,8 +5,7 @@ use Rattle.cif_feed.proofs.Names.{SpellsBasicBy, SpellsInFeed, StandsIn, Ta, Tak
 use Rattle.cif_feed.proofs.Names.{code_of, code_value, columns, false, feed_refusal_as, is_basic, is_deleted, is_new, is_open, is_revised}
 use Rattle.cif_feed.proofs.Names.{is_some, is_trailer, kind_in, kind_of, kind_read_as, not, plus_if, refl, slice_index, subst, sym}
 use Rattle.cif_feed.proofs.Names.{transaction_at, with_line, ℕ, ◌&&◌, ◌++◌, ◌==◌, ◌∙◌, ◌∷◌, ◌≡◌}
-use Rattle.std.proofs.Math.Bool.{and-true}
-use Rattle.std.specs.Result.{IsErrAnd}
+use Rattle.std.{proofs.Math.Bool.and-true, specs.Result.IsErrAnd}
 use Rattle.cif_records.specs.declared.record.Kind.TheVariants.{Zz}
 use Rattle.cif_records.specs.declared.record.Record.TheVariants as of
 use Rattle.cif_feed.proofs.{FeedLines.fine, FeedLines.kind_there, FeedSteps.read_back, FeedSteps.read_transaction}

@@ -7,8 +7,7 @@ use Rattle.cif_feed.proofs.Names.{append-nil, append_assoc, arith, before_cut, c
 use Rattle.cif_feed.proofs.Names.{get_or_default, inl, inr, is_gt, length, length-drop, ltb-false, ltb-true, map, map-append, nat_cmp}
 use Rattle.cif_feed.proofs.Names.{nat_lt, part_entry, records_on, refl, rules, sooner_of, subst, sym, true, weekday_of, ℕ, ⊎_elim, ◌++◌}
 use Rattle.cif_feed.proofs.Names.{◌+◌, ◌-◌, ◌<◌, ◌↔◌, ◌∙◌, ◌∷◌, ◌≡◌, ◌≤◌, ◌⊎◌}
-use Rattle.std.specs.{Ordering.is_le, Prelude.min}
-use Rattle.std.proofs.lemmas.List.Sorted.{IsNonDecreasingBy-drop}
+use Rattle.std.{specs.Ordering.is_le, specs.Prelude.min, proofs.lemmas.List.Sorted.IsNonDecreasingBy-drop}
 use Rattle.cif_feed.specs.PreparedRecord.{terms_on}
 
 -- ---- what a comparison says

@@ -6,9 +6,8 @@ use Rattle.cif_feed.proofs.Names.{goes-on, inl, inr, is_feed_read, known_so, of_
 use Rattle.cif_feed.proofs.Names.{subst, sym, unread_of, ℕ, ⊎_elim, ◌∙◌, ◌≡◌, ◌⊎◌}
 use Rattle.cif_feed.specs.FeedAnswer.{AreHolidaysGiven, AreHolidaysOf, AreHolidaysRead, FeedAnswers, IsBadHoliday, IsPrepareAnswer}
 use Rattle.cif_feed.specs.FeedAnswer.{IsPrepareFault, IsPreparedInTurn, IsReported, OfHolidays, reading_as_feed}
-use Rattle.cif_columns.specs.declared.line_reader.TheConstants.{MAX_LINES}
+use Rattle.cif_columns.{specs.declared.line_reader.TheConstants.MAX_LINES, specs.Source.HasFailedToRead}
 use Rattle.std.proofs.Common.{MatchBool}
-use Rattle.cif_columns.specs.Source.{HasFailedToRead}
 use Rattle.cif_extract.specs.declared.fault.Fault.TheVariants as fault
 use Rattle.cif_feed.specs.{FeedFault.of_holiday_fault, HolidayText.is_holiday_read, WrittenPrepared.IsPrepareFault as IsOnePrepareFault}
 use Rattle.cif_feed.specs.declared.{dropped.Dropped.Dropped, feed_fault.FeedFault.TheVariants.Extract, feed_line.Feed.TheVariants.Full}

@@ -13,16 +13,14 @@ use Rattle.cif_feed.proofs.Names.{plain_line, plain_line-append, printable_fact,
 use Rattle.cif_feed.proofs.Names.{put_association_rows, put_basic_rows, record_lines, refl, row, rows_on, schedule_as_published}
 use Rattle.cif_feed.proofs.Names.{schedule_mark, slice_index, stands-plain_line, subst, sym, take, take-append_seam, terms_of}
 use Rattle.cif_feed.proofs.Names.{transaction_at, true, width_of, with_code, with_columns, with_open_end, ℕ, ◌&&◌, ◌++◌, ◌+◌, ◌-◌, ◌∙◌, ◌∷◌}
-use Rattle.cif_feed.proofs.Names.{◌≡◌}
+use Rattle.cif_feed.{proofs.Names.◌≡◌, specs.declared.mark.Transaction.TheVariants.New}
 use Rattle.cif_columns.proofs.Parts.{length-plain_columns, length_behind}
-use Rattle.cif_records.proofs.Records.{kind_there}
-use Rattle.cif_records.specs.Checks.{are}
+use Rattle.cif_records.{proofs.Records.kind_there, specs.Checks.are}
 use Rattle.cif_records.specs.declared.record.Record.TheVariants as of
 use Rattle.cif_extract.proofs.PlainRecords.{basic_of}
 use Rattle.cif_feed.proofs.{FeedLines.kind_there as feed_kind, FeedSteps.named_line, ListSteps.triples-of}
 use Rattle.cif_feed.proofs.SaidLines.{IsScheduleLine, IsTest, SpellsAssociation, associations_spelled, schedules_spelled}
 use Rattle.cif_feed.specs.{FeedLine.column, HolidayCode.letter, Marks.unless_deleted, Transaction.transaction_in}
-use Rattle.cif_feed.specs.declared.mark.Transaction.TheVariants.{New}
 
 -- ---- contents whose records are known
 

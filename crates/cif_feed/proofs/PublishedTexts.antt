@@ -23,8 +23,7 @@ use Rattle.cif_extract.specs.declared.{call.Call.Call, call.Call.TheVariants.At,
 use Rattle.cif_feed.proofs.{FeedLines.kind_there as feed_kind, FeedSteps.read_back, FittingUpdates.AssociationFits, SaidLines.feed_fits}
 use Rattle.cif_feed.proofs.ListSteps.{enumerate_append, pairs-append, triples-by}
 use Rattle.cif_feed.proofs.PublishedLines.{AreReadAs, IsReadAs, association_written, basic_written, own_spells, parts_read, read_are}
-use Rattle.cif_feed.proofs.PublishedLines.{spell_read}
-use Rattle.cif_feed.specs.WrittenExtracts.{CodesMayStand}
+use Rattle.cif_feed.{proofs.PublishedLines.spell_read, specs.WrittenExtracts.CodesMayStand}
 
 abbrev association_of : PublishedAssociation → Association
 association_of a = a.association

@@ -12,8 +12,7 @@ use Rattle.cif_feed.proofs.Names.{◌+◌, ◌-◌, ◌<◌, ◌∙◌, ◌∷�
 use Rattle.std.proofs.lemmas.List.Filters.{length-filter_both}
 use Rattle.cif_columns.specs.Refusal.{number_of}
 use Rattle.cif_columns.specs.declared.refusal.Refusal.TheVariants as refusal
-use Rattle.cif_extract.proofs.FirstRefusals.{line_refusal}
-use Rattle.cif_extract.specs.declared.place.Place.{Place}
+use Rattle.cif_extract.{proofs.FirstRefusals.line_refusal, specs.declared.place.Place.Place}
 
 -- ---- by itself
 

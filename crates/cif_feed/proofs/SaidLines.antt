@@ -18,11 +18,10 @@ use Rattle.cif_feed.proofs.Names.{terms_of, tiploc_changes, tiploc_changes_of, t
 use Rattle.cif_feed.proofs.Names.{◌∙◌, ◌∷◌, ◌≡◌}
 use Rattle.cif_records.specs.declared.record.Record.TheVariants as of
 use Rattle.cif_extract.specs.Grammar.{HasTerms}
-use Rattle.cif_feed.proofs.{ChangeLaws.filter-filter, FeedSteps.named_line}
+use Rattle.cif_feed.{proofs.ChangeLaws.filter-filter, proofs.FeedSteps.named_line, specs.declared.feed_line.Feed.TheVariants.Update}
 use Rattle.cif_feed.proofs.FeedLines.{association_closed, basic_closed, feed_are, kind_there}
 use Rattle.cif_feed.proofs.ListSteps.{enumerate_filter, pairs-append, pairs-length, pairs-mapped, triples-said}
 use Rattle.cif_feed.specs.{FeedLine.column, Marks.record_mark, Marks.unless_deleted, Transaction.transaction_in}
-use Rattle.cif_feed.specs.declared.feed_line.Feed.TheVariants.{Update}
 use Rattle.cif_feed.specs.declared.mark.Transaction.TheVariants.{Deleted, New, Revised}
 
 abbrev pub tiploc_of : Record → List Tiploc

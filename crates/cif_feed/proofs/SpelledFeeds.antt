@@ -17,9 +17,8 @@ use mathlib.Core.HLevel.{Σ_prop_path}
 use Rattle.cif_extract.proofs.SpelledLines.{spelled_behind, spelled_trailer}
 use Rattle.cif_extract.specs.declared.fault.Fault.TheVariants as fault
 use Rattle.cif_feed.proofs.{FeedLines.feed_are, FeedRuns.comment_fine, FeedRuns.line_why, FeedSteps.read_back}
-use Rattle.cif_feed.specs.{FeedFault.IsReadAs, FeedRefusal.line_refusal}
+use Rattle.cif_feed.{specs.FeedFault.IsReadAs, specs.FeedRefusal.line_refusal, specs.declared.update.Update.Update}
 use Rattle.cif_feed.specs.declared.feed_line.Feed.TheVariants as feed
-use Rattle.cif_feed.specs.declared.update.Update.{Update}
 
 module _ (feed : Feed) (allowed : HolidayCodes) (max : ℕ) where
   -- contents say one at most

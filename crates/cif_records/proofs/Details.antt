@@ -5,10 +5,9 @@ use Rattle.cif_records.proofs.Names.{columns_in, detail_in, detail_rows, detail_
 use Rattle.cif_records.proofs.Names.{get_or-append-add, get_or_append_left, has_body, is_some, length, length-append, nat_le, nat_tests}
 use Rattle.cif_records.proofs.Names.{one_table, plain_columns, plain_line, refl, replicate, row, spare, stands-append, stands-front, subst}
 use Rattle.cif_records.proofs.Names.{sym, take, take-append_seam, text, text_of, true, width_of, ℕ, ◌&&◌, ◌++◌, ◌+◌, ◌-◌, ◌<◌, ◌∙◌, ◌∷◌}
-use Rattle.cif_records.proofs.Names.{◌≡◌, ◌≤◌}
+use Rattle.cif_records.{proofs.Names.◌≡◌, proofs.Names.◌≤◌, proofs.Rows.◌&◌}
 use Rattle.cif_columns.proofs.{ColumnReads.read, ColumnReads.width, Texts.is_text_of}
 use Rattle.cif_columns.proofs.StoodValues as stood
-use Rattle.cif_records.proofs.Rows.{◌&◌}
 
 -- a detail that stands in a line of its own fits its columns
 pub detail_fits : (line : List ℕ) (d : Detail) → IsLine line → AllStandIn line (detail_table d) → AllFit (detail_rows (Some d))

@@ -10,13 +10,12 @@ use Rattle.cif_records.proofs.Basics as basics
 use Rattle.cif_records.proofs.Changes as changes
 use Rattle.cif_records.proofs.Extras as extras
 use Rattle.cif_records.proofs.Headers as headers
-use Rattle.cif_records.proofs.{Identities.only_kind, Judging.none-some}
+use Rattle.cif_records.{proofs.Identities.only_kind, proofs.Judging.none-some, specs.Kind.identity}
 use Rattle.cif_records.proofs.Origins as origins
 use Rattle.cif_records.proofs.Stops as stops
 use Rattle.cif_records.proofs.Termini as termini
 use Rattle.cif_records.proofs.Tiplocs as tiplocs
 use Rattle.cif_records.proofs.Trailers as trailers
-use Rattle.cif_records.specs.Kind.{identity}
 use Rattle.cif_records.specs.declared.record.Record.TheVariants as a
 
 -- what a record of a kind holds; amended and deleted locations are never held

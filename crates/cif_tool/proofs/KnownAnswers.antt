@@ -10,11 +10,9 @@ use Rattle.cif_tool.proofs.Names.{ap, canon-fault, canonical_text, clashes_text,
 use Rattle.cif_tool.proofs.Names.{inr, is-normalised, known_so, lines_of, listed_status, outcome_of, reader_of, reading_extract, refl, sym}
 use Rattle.cif_tool.proofs.Names.{table_text, true, true≢false, ℕ, ⊎_elim, ◌↔◌, ◌≡◌, ◌⊎◌}
 use Rattle.cif_views.specs.{Explanation.IsExplanationFault, Listing.IsDayListing, Listing.IsTrainListing}
-use Rattle.cif_extract.proofs.ReadCalls.{both-go-on, both-hand-on}
-use Rattle.cif_extract.specs.declared.extract.Extract.{Extract}
+use Rattle.cif_extract.{proofs.ReadCalls.both-go-on, proofs.ReadCalls.both-hand-on, specs.declared.extract.Extract.Extract}
 use Rattle.cif_extract.specs.declared.fault.Fault.TheVariants as fault
-use Rattle.cif_canon.specs.Pair.{IsNarrowedPair, SpellPair}
-use Rattle.cif_canon.specs.declared.comparison.Comparison.{Comparison}
+use Rattle.cif_canon.{specs.Pair.IsNarrowedPair, specs.Pair.SpellPair, specs.declared.comparison.Comparison.Comparison}
 use Rattle.cif_tool.specs.declared.answers.CanonicalOutput.{CanonicalOutput}
 use Rattle.cif_tool.specs.declared.answers.CanonicalOutput.TheVariants as output
 

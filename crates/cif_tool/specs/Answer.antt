@@ -19,14 +19,13 @@ use Rattle.cif_canon.specs.Fault.{IsNormaliseFault, IsOfNormalise, IsReadNarrowe
 use Rattle.cif_canon.specs.Pair.{AreNarrowed, IsNarrowedPair, SpellPair}
 use Rattle.cif_canon.specs.declared.{asked.Asked.Asked, canonical_form.Counts.Counts, comparison.Comparison.Comparison, rows.Format.Format}
 use Rattle.cif_canon.specs.declared.{rows.Format.TheVariants.Text, rows.Format.TheVariants.Tsv}
-use Rattle.cif_tool.specs.Status.{outcome_of}
+use Rattle.cif_tool.{specs.Status.outcome_of, specs.declared.job.Job.TheVariants.Train}
 pub use Rattle.cif_tool.specs.declared.{job.CalendarJob.CalendarJob, job.CanonicalJob.CanonicalJob, job.CompareJob.CompareJob}
 pub use Rattle.cif_tool.specs.declared.{job.DayJob.DayJob, job.ExplainJob.ExplainJob, job.TrainJob.TrainJob}
 use Rattle.cif_tool.specs.declared.{answers.CanonicalOutput.CanonicalOutput, answers.PairOutput.PairOutput, job.Job.Job}
 use Rattle.cif_tool.specs.declared.answers.CanonicalOutput.TheVariants as output
 use Rattle.cif_tool.specs.declared.answers.PairOutput.TheVariants as pair
 use Rattle.cif_tool.specs.declared.job.Job.TheVariants.{Calendar, Check, CheckAll, Clashes, Compare, Day, Diff, Explain, Normalise, Table}
-use Rattle.cif_tool.specs.declared.job.Job.TheVariants.{Train}
 
 -- P holds of the status of an answer, whose text was written or, at Write, a prefix of it was
 abbrev pub IfAnswered : Result ℕ Fault → (ℕ → Type 0) → Type 0
@@ -203,8 +202,7 @@ pub record IsAnswered {R W : Type 0} (remaining : R → Option (List ℕ)) (read
   pub reads : IsResultOf remaining read_errors call source source_new result
   pub handed_on : IsHandedOn holds_nothing sink_new result
 
--- What a command with two inputs owes its sink, of which it makes this once both are whole extracts, what comes of their sources, and that
--- nothing is held back.
+-- What a command with two inputs owes its sink, what comes of its sources, and what it makes once both are whole extracts.
 pub record AreAnswered {R W : Type 0} (remaining : R → Option (List ℕ)) (read_errors : R → Option ℕ) (contents : W → Option (List ℕ))
     (write_errors : W → Option ℕ) (holds_nothing : W → Type 0) (IsAnswer : List ℕ → List ℕ → List ℕ → ℕ → Type 0)
     (Makes : Extract → Extract → Result ℕ Fault → Type 0) (left left_new right right_new : Source R) (sink sink_new : Sink W)

@@ -2,9 +2,8 @@
 use Rattle.std.specs.Prelude.{◌≡◌, List, [], ◌∷◌, ◌++◌, Option, Some, codes, map, true, false}
 use Rattle.std.specs.Borrow.{Bor}
 use Rattle.clap.specs.Words.{App, Row, Rule, Text, app_of, fault_of, new_app, new_rule, subcommand_of, with_rule, with_subcommand}
-use Rattle.clap.specs.{Kinds.Kinds, Lexer.usize_max}
+use Rattle.clap.{specs.Kinds.Kinds, specs.Lexer.usize_max, specs.declared.builder.ValueParser.TheVariants.Names}
 use Rattle.clap.specs.declared.{Command.Command, Command.TheViews.out-Command, builder.ArgAction.TheVariants.SetTrue}
-use Rattle.clap.specs.declared.{builder.ValueParser.TheVariants.Names}
 use Rattle.cif_tool.specs.declared.{command_line.Argument.Argument, command_line.Choices.Choices, command_line.Syntax.Syntax}
 use Rattle.cif_tool.specs.declared.command_line.Argument.TheVariants.{All, Common, Date, DropClashes, File, Form, Format, FromDate, Full}
 use Rattle.cif_tool.specs.declared.command_line.Argument.TheVariants.{Holidays, Left, Lenient, Right, Stops, Table, ToDate, Uid, Updates}

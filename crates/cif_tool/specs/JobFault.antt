@@ -5,16 +5,14 @@ use Rattle.std.specs.Str.{bytes_eq}
 use Rattle.clap.specs.Words.{IsAmong, Row, Text, first_of}
 use Rattle.clap.specs.declared.{error.ErrorKind.ErrorKind, error.ErrorKind.TheVariants.DisplayHelp}
 use Rattle.clap.specs.declared.{error.ErrorKind.TheVariants.DisplayVersion}
-use Rattle.cif_columns.specs.{Day.StandsInYymmdd, Uid.IsUid}
+use Rattle.cif_columns.{specs.Day.StandsInYymmdd, specs.Uid.IsUid, specs.declared.sink.Sink.Sink, specs.declared.sink.WriteFault.WriteFault}
 use Rattle.cif_columns.specs.Sink.{HasFailed, HasWritten, Writes}
-use Rattle.cif_columns.specs.declared.{sink.Sink.Sink, sink.WriteFault.WriteFault}
 use Rattle.cif_extract.specs.declared.{fault.Fault.Fault, fault.Fault.TheVariants.Write}
 use Rattle.cif_feed.specs.FeedAnswer.{IsHandedOn}
 use Rattle.cif_tool.specs.CommandLine.{AreChoices, chosen, faults_of, subcommands}
 use Rattle.cif_tool.specs.Job.{IsTaskChosen, inputs_of, required_word, standard_inputs}
-use Rattle.cif_tool.specs.Status.{ReportsFault, end_status}
+use Rattle.cif_tool.{specs.Status.ReportsFault, specs.Status.end_status, specs.declared.job.Task.Task}
 use Rattle.cif_tool.specs.declared.{command_line.Argument.Argument, command_line.Choices.Choices, job.Inputs.Inputs, job.JobFault.JobFault}
-use Rattle.cif_tool.specs.declared.{job.Task.Task}
 use Rattle.cif_tool.specs.declared.job.Inputs.TheVariants.{Extracts, HolidaysAndFile, LeftAndRight}
 use Rattle.cif_tool.specs.declared.job.JobFault.TheVariants.{BadDate, BadUid, Memory, NoCommand, StandardInputTwice, Usage}
 

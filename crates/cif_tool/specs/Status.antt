@@ -4,8 +4,7 @@ use Rattle.cif_columns.specs.{Sink.Writes, declared.sink.Sink.Sink, declared.sin
 use Rattle.cif_extract.specs.declared.fault.Fault.{Fault}
 use Rattle.cif_extract.specs.declared.fault.Fault.TheVariants.{Ambiguous, Memory, OutsideWindow, Read, Refused, WindowReversed}
 use Rattle.cif_extract.specs.declared.fault.Fault.TheVariants.{WindowsDiffer, Write}
-use Rattle.cif_canon.specs.Report.{fault_line}
-use Rattle.cif_canon.specs.declared.comparison.Comparison.{Comparison}
+use Rattle.cif_canon.{specs.Report.fault_line, specs.declared.comparison.Comparison.Comparison}
 use Rattle.cif_canon.specs.declared.comparison.Comparison.TheVariants.{Association, Same, Tiploc, Train}
 
 -- a refusal of the input is 3; a failed device, and memory that ran out, is 4

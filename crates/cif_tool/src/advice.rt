@@ -4,7 +4,7 @@ use crate::answers::Kept;
 use crate::devices::{ExtractInput, OutputState};
 use crate::job::Job;
 use crate::line_advice::Reader;
-use crate::message::{Verbosity, Message};
+use crate::message::{Message, Verbosity};
 use cif_canon::Format;
 use cif_columns::{Sink, Uid};
 use cif_extract::{Clash, Extract, Fault};

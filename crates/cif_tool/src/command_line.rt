@@ -7,8 +7,8 @@ ghost use Rattle.cif_tool.specs.CommandLine.{AreChoices, IsCommand, argument, ch
 
 use crate::help;
 use Argument::{
-    All, Common, Date, DropClashes, File, Form, Format, FromDate, Full, Holidays, Left, Lenient, Right,
-    Stops, Table, ToDate, Uid, Updates, Verbose,
+    All, Common, Date, DropClashes, File, Form, Format, FromDate, Full, Holidays, Left, Lenient,
+    Right, Stops, Table, ToDate, Uid, Updates, Verbose,
 };
 use clap::{Arg, ArgAction, ArgMatches, Command};
 use std::alloc::{AllocError, Global};
@@ -201,7 +201,11 @@ static SUBCOMMANDS: [Parts<'static>; 12] = [
         help::NORMALISE,
         &[Verbose, File, FromDate, ToDate, Form],
     ),
-    ("check", help::CHECK, &[Verbose, File, FromDate, ToDate, Form, All]),
+    (
+        "check",
+        help::CHECK,
+        &[Verbose, File, FromDate, ToDate, Form, All],
+    ),
     (
         "compare",
         help::COMPARE,
@@ -229,7 +233,11 @@ static SUBCOMMANDS: [Parts<'static>; 12] = [
         help::TABLE,
         &[Verbose, Table, File, FromDate, ToDate, Form],
     ),
-    ("calendar", help::CALENDAR, &[Verbose, Uid, File, FromDate, ToDate]),
+    (
+        "calendar",
+        help::CALENDAR,
+        &[Verbose, Uid, File, FromDate, ToDate],
+    ),
     (
         "prepare",
         help::PREPARE,

@@ -2,7 +2,7 @@
 ghost use Rattle.std.specs.Io.{ReadsAtMost};
 
 use crate::line_again::{LastRead, LineAgain, MOST_LOOKED_AT, START};
-use crate::message::{Verbosity, Escaped};
+use crate::message::{Escaped, Verbosity};
 use crate::words::is_standard;
 use arrayvec::ArrayVec;
 use cif_columns::{LINE_WIDTH, Line, ReadDevice, Sink, Source, WriteDevice};

@@ -3,7 +3,7 @@ use crate::devices::{ExtractInput, OutputState};
 use crate::input_advice::{FULL_FIRST, other_format};
 use crate::job::PrepareJob;
 use crate::line_advice::Reader;
-use crate::message::{Verbosity, Message, shown};
+use crate::message::{Message, Verbosity, shown};
 use cif_columns::{LINE_WIDTH, Sink, Source};
 use cif_extract::Fault;
 use cif_feed::{

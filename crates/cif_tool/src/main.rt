@@ -80,8 +80,7 @@ fn run_words(rt: HostRuntime, words: Vec<String>, errors: &mut Sink<Stderr>) -> 
     }
 }
 
-/// Says why the words ask for nothing, and returns the status to exit with: help and the version go to the output, all else to
-/// `errors`.
+/// Says why the words ask for nothing, and returns the status: help and the version go to the output, all else to `errors`.
 // Inlined, it would keep its faults on the stack while the task is done.
 #[inline(never)]
 fn refused(rt: HostRuntime, fault: JobFault, errors: &mut Sink<Stderr>) -> u8 {
@@ -102,8 +101,7 @@ fn words_of(rt: HostRuntime) -> io::Result<Vec<String>> {
     Ok(env::args(&rt)?.collect(rt.alloc())?)
 }
 
-/// Answers the job on the standard output, and returns the status to exit with. Memory comes where there is none for its inputs
-/// or its output.
+/// Answers the job on the standard output, and returns the status to exit with. Memory comes where its inputs or its output get none.
 // Inlined, it would keep its inputs on the stack while a feed is read.
 #[inline(never)]
 fn answer_job(
@@ -160,7 +158,6 @@ fn prepare(
     let mut written = OutputState::new();
     let mut output = standard_output(rt, &mut written)?;
     let ended = run_prepare(alloc, job, &mut holidays, &mut *source, &mut output, errors);
-    // The process ends after this: the system takes back the memory of all bodies at once.
     let ended = ManuallyDrop::new(ended);
     if verbosity.helps() {
         let done_job = DonePrepareJob {
@@ -187,8 +184,7 @@ fn source_of_holidays<'a>(
     Some(source_of(rt, "holidays", file, verbosity))
 }
 
-/// Writes what the updates make of the full extract, the first input, and returns the status to exit with. Memory comes as in
-/// `answer_job`.
+/// Writes what the updates make of the full extract, the first input, and returns the status. Memory comes as in `answer_job`.
 #[inline(never)]
 fn update(
     rt: HostRuntime,
@@ -211,7 +207,6 @@ fn update(
         &mut output,
         errors,
     );
-    // The process ends after this: the system takes back the memory of all bodies at once.
     let ended = ManuallyDrop::new(ended);
     if verbosity.helps() {
         let done_job = DoneUpdateJob {

@@ -1,6 +1,6 @@
 //! What is said of a mistaken word.
 use crate::job::JobFault;
-use crate::message::{Verbosity, Escaped, Message};
+use crate::message::{Escaped, Message, Verbosity};
 use crate::refused_columns::YYMMDD;
 use crate::words::bad_word;
 use arrayvec::ArrayString;

@@ -15,7 +15,7 @@ use crate::job::{
     CalendarJob, CanonicalJob, CompareJob, DayJob, DiffJob, ExplainJob, FeedJob, InputNames,
     Inputs, Job, JobFault, PrepareJob, Request, TableJob, Task, TrainJob, UpdateJob,
 };
-use crate::message::{Verbosity, Escaped};
+use crate::message::{Escaped, Verbosity};
 use cif_canon::{Asked, Format};
 use cif_columns::{Day, Uid, are_printable};
 use cif_views::{Listing, Table};

@@ -5,11 +5,10 @@ use Rattle.cif_views.proofs.Names.{List, Ordering, Schedule, Some, Terms, [], ap
 use Rattle.cif_views.proofs.Names.{association_entry, bytes_decides, first_clash-clear, is_eq, key_cmp, keys-total, less_one_way, map}
 use Rattle.cif_views.proofs.Names.{nat_cmp, nat_list_cmp_total, not_less, of_key, refl, same-keys, same_Some, schedule_entries}
 use Rattle.cif_views.proofs.Names.{schedule_entry, slice_cmp, slice_get, subst, suc, sym, texts_ties, train_clash, zero, ℕ, ◌++◌, ◌↔◌, ◌∙◌}
-use Rattle.cif_views.proofs.Names.{◌∷◌, ◌≡◌}
+use Rattle.cif_views.{proofs.Names.◌∷◌, proofs.Names.◌≡◌, specs.Steps.Clashes.AreAdded}
 use Rattle.cif_records.specs.declared.header.Header.{Header}
 use Rattle.cif_extract.specs.declared.fault.Clash.TheVariants as named
 use Rattle.cif_calendar.proofs.FirstClash.{IsFirstClashOf-clear, IsFirstClashOf-day, IsFirstClashOf-key}
-use Rattle.cif_views.specs.Steps.Clashes.{AreAdded}
 
 -- bytes that compare equal are equal
 same-bytes : (xs ys : List ℕ) → slice_cmp nat_cmp xs ys ≡ Equal → xs ≡ ys

@@ -8,9 +8,8 @@ use Rattle.cif_views.proofs.Names.{number, own_call_fields, own_change_fields, o
 use Rattle.cif_views.proofs.Names.{row_behind, row_fields, same_places, shown, slice_index_or, span_in, suc, sym, take, take-take, trimmed}
 use Rattle.cif_views.proofs.Names.{true, zero, ℕ, ◌&&◌, ◌++◌, ◌+◌, ◌<◌, ◌∙◌, ◌∷◌, ◌≡◌}
 use Rattle.cif_canon.specs.Fields.{after}
-use Rattle.cif_views.proofs.TableRows.{behind-row, call-fields}
-use Rattle.cif_views.specs.{DifferenceTable.text, Steps.Columns.shown_at}
-use Rattle.cif_views.specs.declared.columns.JourneyKind.TheVariants.{Origin, Terminus}
+use Rattle.cif_views.{proofs.TableRows.behind-row, proofs.TableRows.call-fields, specs.DifferenceTable.text, specs.Steps.Columns.shown_at}
+use Rattle.cif_views.{specs.declared.columns.JourneyKind.TheVariants.Origin, specs.declared.columns.JourneyKind.TheVariants.Terminus}
 use Rattle.cif_views.specs.declared.columns.FieldPlace.TheVariants as place
 
 -- ---- one field

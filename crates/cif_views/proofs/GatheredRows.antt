@@ -2,8 +2,7 @@
 use Rattle.cif_views.proofs.Names.{Field, List, Option, Tsv, [], ap, append-nil, append_assoc, arith, codes, drop, length, length-append}
 use Rattle.cif_views.proofs.Names.{refl, row_behind, subst, sym, take, take-append_seam, ℕ, ◌++◌, ◌+◌, ◌<◌, ◌∙◌, ◌∷◌, ◌≡◌}
 use Rattle.cif_columns.specs.declared.sink.Sink.{Sink}
-use Rattle.cif_canon.proofs.AppendedTexts.{both, text-is}
-use Rattle.cif_canon.specs.{Appended.IsAppended, Fields.after}
+use Rattle.cif_canon.{proofs.AppendedTexts.both, proofs.AppendedTexts.text-is, specs.Appended.IsAppended, specs.Fields.after}
 use Rattle.cif_views.specs.Steps.GatheredRows.{IsBegun, IsGathered, waiting}
 
 -- a row behind one that waits, with a line feed between them

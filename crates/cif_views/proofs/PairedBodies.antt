@@ -21,9 +21,8 @@ use Rattle.cif_records.specs.declared.record.Record.TheVariants as of
 use Rattle.cif_extract.proofs.{Bodies.first_line, PlainTexts.lines_of}
 use Rattle.cif_canon.specs.Fields.{after}
 use Rattle.cif_views.proofs.DifferingCells.{AllSame, all-covered, all-moved, are_covered, both-none, covered, is_there, same-cells}
-use Rattle.cif_views.proofs.DifferingCells.{same-cells_in, some-behind}
-use Rattle.cif_views.proofs.{DifferingFields.same-kind, PairedJourneys.journeys-by-lines}
-use Rattle.cif_views.specs.DifferenceTable.{journey_of}
+use Rattle.cif_views.{proofs.DifferingCells.same-cells_in, proofs.DifferingCells.some-behind, proofs.DifferingFields.same-kind}
+use Rattle.cif_views.{proofs.PairedJourneys.journeys-by-lines, specs.DifferenceTable.journey_of}
 use Rattle.cif_views.specs.declared.columns.JourneyKind.TheVariants as kinds_of
 
 -- the records of a journey

@@ -9,11 +9,9 @@ use Rattle.cif_views.proofs.Names.{journeys_behind, kind_of_line, length, line_o
 use Rattle.cif_views.proofs.Names.{place_rows, places_behind, pointwise, refl, replicate, row_behind, row_fields, same_places}
 use Rattle.cif_views.proofs.Names.{schedule_differences, schedule_head, shown, sym, take, true, type_fields, without_extra, ℕ, ◌++◌, ◌+◌}
 use Rattle.cif_views.proofs.Names.{◌∙◌, ◌∷◌, ◌≡◌}
-use Rattle.cif_canon.proofs.AppendedTexts.{text-is}
-use Rattle.cif_canon.specs.Fields.{after, nothing}
+use Rattle.cif_canon.{proofs.AppendedTexts.text-is, specs.Fields.after, specs.Fields.nothing}
 use Rattle.cif_views.proofs.DifferingFields.{differing, place-rows, same-kind}
-use Rattle.cif_views.proofs.TableRows.{behind-row}
-use Rattle.cif_views.specs.DifferenceTable.{journey_of, text}
+use Rattle.cif_views.{proofs.TableRows.behind-row, specs.DifferenceTable.journey_of, specs.DifferenceTable.text}
 
 -- what says which side has it
 pub shown-change : (side : Side) (change : List ℕ) → change ≡ (change_of side).1 → (Trimmed, change) ≡ change_of side

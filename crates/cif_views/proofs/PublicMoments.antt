@@ -10,9 +10,8 @@ use Rattle.cif_views.proofs.Names.{◌-◌, ◌<◌, ◌==◌, ◌||◌, ◌∙�
 use Rattle.std.specs.Option.{option_or}
 use Rattle.cif_columns.specs.{Clock.clock_seconds, Clock.seconds_to, Digits.number_at, WorkTime.work_seconds, WorkTime.work_time_in}
 use Rattle.cif_columns.specs.PublicTime.{public_seconds, public_time_in, unless_midnight}
-use Rattle.cif_views.specs.Steps.PublicCalls.{shown_at}
-use Rattle.cif_views.specs.declared.{columns.JourneyKind.TheVariants.Origin, columns.JourneyKind.TheVariants.Terminus}
-use Rattle.cif_views.specs.declared.{public_calls.Stay.Stay}
+use Rattle.cif_views.{specs.Steps.PublicCalls.shown_at, specs.declared.columns.JourneyKind.TheVariants.Origin}
+use Rattle.cif_views.{specs.declared.columns.JourneyKind.TheVariants.Terminus, specs.declared.public_calls.Stay.Stay}
 
 -- a moment in the day that begins at one
 pub in-day : (from seconds : ℕ) → seconds < 86400 → IsInDayFrom from seconds (in_day_from from seconds)

@@ -7,11 +7,9 @@ use Rattle.cif_views.proofs.Names.{leb-true, length, length-append, length-colum
 use Rattle.cif_views.proofs.Names.{or_cases, plain_columns, plain_line, pointwise, printable-date, refl, row_fields, row_line, shown}
 use Rattle.cif_views.proofs.Names.{span_in, subst, suc, sym, take, take-append_seam, true, used, width_of, yymmdd_from, zero, ℕ, ⊎_elim}
 use Rattle.cif_views.proofs.Names.{◌&&◌, ◌++◌, ◌+◌, ◌-◌, ◌<◌, ◌^◌, ◌||◌, ◌∙◌, ◌∷◌, ◌≡◌}
-use Rattle.std.proofs.lemmas.Str.Parse.{digit_from_value}
-use Rattle.std.specs.{List.join_with_byte, Str.Parse.AllDigits}
+use Rattle.std.{proofs.lemmas.Str.Parse.digit_from_value, specs.List.join_with_byte, specs.Str.Parse.AllDigits}
 use Rattle.cif_columns.proofs.Parts.{length-plain_columns, whole-first}
-use Rattle.cif_views.proofs.DifferingCells.{covered, is_among}
-use Rattle.cif_views.specs.Steps.Columns.{shown_at}
+use Rattle.cif_views.{proofs.DifferingCells.covered, proofs.DifferingCells.is_among, specs.Steps.Columns.shown_at}
 use Rattle.cif_views.specs.declared.columns.FieldPlace.TheVariants as place
 
 -- ---- a text, cut at bytes that no cell has

@@ -15,8 +15,7 @@ use Rattle.cif_records.proofs.Headers as headers
 use Rattle.cif_records.specs.Association as aa
 use Rattle.cif_weeks.specs.Applies.{Applies}
 use Rattle.cif_canon.proofs.MadeFits.{HasTerms, have-terms, permanent-association, permanent-basic}
-use Rattle.cif_canon.specs.Fields.{nothing}
-use Rattle.cif_canon.specs.declared.asked.Asked.{Asked}
+use Rattle.cif_canon.{specs.Fields.nothing, specs.declared.asked.Asked.Asked}
 use Rattle.cif_views.proofs.DifferingCells.{both-none, some-row}
 use Rattle.cif_views.proofs.PairedBodies.{FitsLines, association_line, same-association, same-body}
 

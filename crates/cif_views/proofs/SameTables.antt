@@ -12,15 +12,13 @@ use Rattle.cif_views.proofs.Names.{schedule_plain, spelled-fits, subst, sym, tab
 use Rattle.cif_views.proofs.Names.{tiploc_table, trailer_table, true, ℕ, ◌++◌, ◌+◌, ◌<◌, ◌^◌, ◌↔◌, ◌∙◌, ◌∷◌, ◌≡◌, ◌≢◌, ◌≤◌}
 use Rattle.std.proofs.lemmas.Simd.{map-map}
 use Rattle.cif_records.specs.Association as aa
-use Rattle.cif_canon.proofs.SameExtracts.{same-sym, same-trans}
-use Rattle.cif_canon.specs.{Canonical.IsCanonicalText, Lines.lines_of}
+use Rattle.cif_canon.{proofs.SameExtracts.same-sym, proofs.SameExtracts.same-trans, specs.Canonical.IsCanonicalText, specs.Lines.lines_of}
 use Rattle.cif_views.proofs.{PairedBodies.FitsLines, PairedBodies.association_line, RowsOfDifferences.AssociationEntryFits}
-use Rattle.cif_views.proofs.{RowsOfDifferences.ScheduleEntryFits}
+use Rattle.cif_views.{proofs.RowsOfDifferences.ScheduleEntryFits, specs.SameTables.HaveSameTables, specs.Tables.association_fields}
 use Rattle.cif_views.proofs.RowLines.{IsPlain, same-plain_row, same-plain_rows, same-rows}
 use Rattle.cif_views.proofs.SameJourneys.{IsRow, fields_of, most, one-row, row-cells}
 use Rattle.cif_views.proofs.SameSchedules.{IsNumberedPlain, IsSchedule, all-numbered, all-rows, listed, rows_from, same-row_of}
 use Rattle.cif_views.proofs.SameSchedules.{same-schedules, schedule-cells, schedules_from}
-use Rattle.cif_views.specs.{SameTables.HaveSameTables, Tables.association_fields}
 use Rattle.cif_views.specs.declared.{columns.TheConstants.HEADER, columns.TheConstants.TIPLOC, tables.Table.TheVariants.Header}
 
 abbrev header_columns : List Column

@@ -9,9 +9,7 @@ use Rattle.cif_views.proofs.Names.{rows_of, schedule_rows, slice_index_or, slice
 use Rattle.cif_views.proofs.Names.{take-take, take_more_set, true, ℕ, ◌++◌, ◌+◌, ◌<◌, ◌==◌, ◌∙◌, ◌∷◌, ◌≡◌, ◌≤◌, ◌⊎◌}
 use borrow.Rule.Slice.PartMut.{put_mid}
 use Rattle.std.proofs.lemmas.Slice.{take-put_mid}
-use Rattle.cif_canon.proofs.ViewLines.{joined}
-use Rattle.cif_canon.specs.Fields.{after}
-use Rattle.cif_canon.specs.declared.rows.Shape.{Shape}
+use Rattle.cif_canon.{proofs.ViewLines.joined, specs.Fields.after, specs.declared.rows.Shape.Shape}
 use Rattle.cif_views.specs.declared.columns.JourneyKind.TheVariants.{Origin, Terminus}
 use Rattle.cif_views.specs.declared.columns.FieldPlace.TheVariants as place
 

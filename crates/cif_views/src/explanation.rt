@@ -11,7 +11,7 @@ ghost use Rattle.cif_canon.specs.Fields.{after, row_start, separator, shown};
 ghost use Rattle.cif_canon.specs.declared.{rows.Format.TheVariants.Text, rows.Shape.TheVariants.Trimmed};
 ghost use Rattle.cif_views.specs.Listing.{date_field};
 
-use crate::heading::{ASSOCIATION_FIELDS, write_heading};
+use crate::heading::{ASSOCIATION_NAMES, write_heading};
 use crate::listing::Listing;
 use crate::marks::{Applying, ExplainedEntry, Mark, mark_at, records_on};
 use arrayvec::ArrayString;
@@ -82,7 +82,7 @@ pub fn explain_listing<W: WriteDevice>(
         format,
         calls: false,
     };
-    write_heading(listing, "date", &EXPLAINED, &ASSOCIATION_FIELDS, sink);
+    write_heading(listing, "date", &EXPLAINED, &ASSOCIATION_NAMES, sink);
     write_explained(format, day, associations.as_slice(), sink);
     write_explained(format, day, trains.as_slice(), sink);
     answer(sink)

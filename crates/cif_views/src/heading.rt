@@ -22,7 +22,7 @@ const JOURNEY: [&str; 9] = [
 ];
 
 /// The fields of an association.
-pub(crate) const ASSOCIATION_FIELDS: [&str; 9] = [
+pub(crate) const ASSOCIATION_NAMES: [&str; 9] = [
     "base_uid",
     "associated_uid",
     "association_category",
@@ -35,7 +35,7 @@ pub(crate) const ASSOCIATION_FIELDS: [&str; 9] = [
 ];
 
 /// The fields of a call.
-const CALL_FIELDS: [&str; 12] = [
+const CALL_NAMES: [&str; 12] = [
     "call",
     "call_location",
     "call_suffix",
@@ -103,5 +103,5 @@ pub(crate) fn write_heading<W: WriteDevice>(
 fn call_names(listing: Listing) -> &'static [&'static str]
     ensures { texts result.now ≡ call_names_if listing }
 {
-    if listing.calls { &CALL_FIELDS } else { &[] }
+    if listing.calls { &CALL_NAMES } else { &[] }
 }

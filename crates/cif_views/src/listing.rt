@@ -8,7 +8,7 @@ ghost use Rattle.cif_views.specs.Listing.{IsDayListing, IsTrainListing, associat
 ghost use Rattle.cif_views.specs.Steps.Rows.{first_field};
 
 use crate::calls::write_row;
-use crate::heading::{ASSOCIATION_FIELDS, write_heading};
+use crate::heading::{ASSOCIATION_NAMES, write_heading};
 use arrayvec::ArrayString;
 use cif_canon::rows::{
     LONGEST_ROW, ROW_START, association_row, push_left_out, row_start, schedule_row, train_row,
@@ -113,7 +113,13 @@ impl DayLines for ListedRows {
     ghost train = { λ rows. train_text rows.listing (first_field rows.first) };
 
     fn write_heading<W: WriteDevice>(&self, sink: &mut Sink<W>) {
-        write_heading(self.listing, "date", &["kind", "uid"], &ASSOCIATION_FIELDS, sink);
+        write_heading(
+            self.listing,
+            "date",
+            &["kind", "uid"],
+            &ASSOCIATION_NAMES,
+            sink,
+        );
     }
 
     fn write_association<W: WriteDevice>(

@@ -2,8 +2,7 @@
 use Rattle.cif_weeks.proofs.Names.{Form, IsAligned, IsAlignedOne, IsAlignedTwo, IsWeekOf, IsWithin, One, Permanent, RunsOn, Two, Window}
 use Rattle.cif_weeks.proofs.Names.{arith, cases_lt, inl, inr, length, subst, sym, week_of, weekday_of, ℕ, ◌*◌, ◌+◌, ◌-◌, ◌<◌, ◌≡◌, ◌≤◌}
 use Rattle.cif_weeks.proofs.WeekDays.{RunsOn-below, day_rises, day_rises_week, week_later, week_of-day, week_of-rises, weekday_later}
-use Rattle.cif_weeks.proofs.WeekDays.{weekday_of-day}
-use Rattle.cif_weeks.specs.Applies.{Applies}
+use Rattle.cif_weeks.{proofs.WeekDays.weekday_of-day, specs.Applies.Applies}
 
 -- a day of a week on which the record applies, on the given weekday
 pub record DayOfWeek {B : Type 0} (r : Permanent B) (week weekday : ℕ) : Type 0 where

@@ -2,9 +2,8 @@
 use Rattle.cif_weeks.proofs.Names.{Bool, Breaks, Change, Fits, Form, IsAligned, IsGrown, IsMask, IsWithin, List, One, Permanent, RunsOn}
 use Rattle.cif_weeks.proofs.Names.{Two, Window, arith, cases_lt, inl, inr, refl, subst, sym, week_of, weekday_of, ℕ, ⊎_elim, ◌*◌, ◌+◌, ◌-◌}
 use Rattle.cif_weeks.proofs.Names.{◌<◌, ◌≡◌, ◌≤◌}
-use Rattle.cif_weeks.proofs.{Masks.mask_runs, Separate.change-seven_days}
+use Rattle.cif_weeks.{proofs.Masks.mask_runs, proofs.Separate.change-seven_days, specs.Applies.Applies}
 use Rattle.cif_weeks.proofs.WeekDays.{day_rises_week, week_later, week_of-next, week_of-rises, weekday_later}
-use Rattle.cif_weeks.specs.Applies.{Applies}
 
 module _ (window : Window) (on : ℕ → Type 0) where
   -- where its mask fits a week, the mask has each weekday on which the body runs there

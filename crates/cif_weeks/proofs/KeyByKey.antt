@@ -2,9 +2,8 @@
 use Rattle.cif_weeks.proofs.Names.{AllPairs, AreCanonical, Contains, Contains-append_cases, Contains-append_left, Contains-append_right}
 use Rattle.cif_weeks.proofs.Names.{Contains-none, Form, HaveForm, IsTotalOrder, Less, List, Ordering, Permanent, Permanents, Precedes}
 use Rattle.cif_weeks.proofs.Names.{Window, [], ap, arith, inl, inr, not_less, of_key, refl, subst, sym, with_key, ℕ, ⊎_elim, ◌++◌, ◌<◌, ◌↔◌}
-use Rattle.cif_weeks.proofs.Names.{◌≡◌, ◌⊎◌}
+use Rattle.cif_weeks.{proofs.Names.◌≡◌, proofs.Names.◌⊎◌, specs.WhatRuns.HasBody}
 use Rattle.cif_weeks.proofs.JoinedLists.{AllPairs-append, AllPairs-map, Contains-from_map, Contains-map}
-use Rattle.cif_weeks.specs.WhatRuns.{HasBody}
 
 -- more records have the bodies of fewer
 pub HasBody-more : {B : Type 0} (xs ys : Permanents B) → ((r : Permanent B) → xs r → ys r) → (n : ℕ) (b : B) → HasBody xs n b →

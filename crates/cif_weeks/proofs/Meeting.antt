@@ -2,8 +2,7 @@
 use Rattle.cif_weeks.proofs.Names.{AllPairs, AllPairs-members, AreSeparate, Contains, Form, HaveForm, IsAligned, IsApartFrom, IsWithin}
 use Rattle.cif_weeks.proofs.Names.{List, Permanent, Window, inl, inr, subst, sym, week_of, ℕ, ◌↔◌, ◌≡◌, ◌≤◌, ◌⊎◌}
 use Rattle.cif_weeks.proofs.AlignedDays.{IsTight, tight, week_of-applies}
-use Rattle.cif_weeks.proofs.Separate.{AreSeparate-sym, separate-from_before}
-use Rattle.cif_weeks.specs.{Applies.Applies, WhatRuns.HasBody}
+use Rattle.cif_weeks.{proofs.Separate.AreSeparate-sym, proofs.Separate.separate-from_before, specs.Applies.Applies, specs.WhatRuns.HasBody}
 
 -- The conditions, where one body at most runs on a day: each pair with one body is apart, a record with a body applies where that runs,
 -- and where a record applies its body runs.

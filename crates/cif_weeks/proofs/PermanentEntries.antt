@@ -2,10 +2,9 @@
 use Rattle.cif_weeks.proofs.Names.{All, AreCanonical, AreClear, AreLawful, BodyRuns, Contains-get_or, Form, IsClearFrom, IsSome, IsWithin}
 use Rattle.cif_weeks.proofs.Names.{List, Ordering, P, Permanent, SayTheSameByKey, Some, Terms, Window, ap, get_or, is_some, of_key}
 use Rattle.cif_weeks.proofs.Names.{permanent_entries, same_Some, subst, sym, terms_of, ℕ, ◌↔◌, ◌∙◌, ◌≡◌, ◌≤◌}
-use Rattle.cif_calendar.proofs.{PermanentRecords.AreLawful-permanent, PermanentRecords.Wins-permanent}
-use Rattle.cif_calendar.proofs.{SayTheSame.EntriesSayTheSame-from_bodies}
+use Rattle.cif_calendar.{proofs.PermanentRecords.AreLawful-permanent, proofs.PermanentRecords.Wins-permanent}
+use Rattle.cif_calendar.{proofs.SayTheSame.EntriesSayTheSame-from_bodies, specs.Meaning.EntriesSayTheSame}
 use Rattle.cif_calendar.specs.Applies as entry
-use Rattle.cif_calendar.specs.Meaning.{EntriesSayTheSame}
 use Rattle.cif_weeks.proofs.{AlignedDays.tight, JoinedLists.Contains-from_map, JoinedLists.Contains-map}
 use Rattle.cif_weeks.specs.{Applies.Applies, WhatRuns.HasBody}
 

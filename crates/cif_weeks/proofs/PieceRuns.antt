@@ -4,9 +4,8 @@ use Rattle.cif_weeks.proofs.Names.{Form, HasDay, IsAgreed, IsRunOf, IsWithin, Li
 use Rattle.cif_weeks.proofs.Names.{ap, arith, body_at, body_in, body_on, get_or, letter, map, named, refl, source_at, sym, unwrap_or}
 use Rattle.cif_weeks.proofs.Names.{window_of, ℕ, ◌+◌, ◌<◌, ◌∙◌, ◌≡◌}
 use Rattle.cif_weeks.proofs.{Growth.inside, JoinedLists.zip-map, JoinedLists.zip-with, Meeting.have_form, Meeting.say}
-use Rattle.cif_weeks.proofs.{SourcesIn.source_in-within}
+use Rattle.cif_weeks.{proofs.SourcesIn.source_in-within, specs.Steps.BodyRuns.HasBody}
 use Rattle.cif_weeks.proofs.SpanRecords.{HaveBodies, IsBodysRun, Shown, in-order, records-of, records-rising}
-use Rattle.cif_weeks.specs.Steps.BodyRuns.{HasBody}
 
 -- the position of a body, named by what is found
 named-body : {B : Type 0} (xs : List (Terms B)) (found : Option ℕ) (source : ℕ) (b : B) → body_at xs found ≡ Some b →

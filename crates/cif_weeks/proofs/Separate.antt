@@ -1,9 +1,8 @@
 -- Separate records in order: one ends in a week before that in which the other begins.
 use Rattle.cif_weeks.proofs.Names.{AreSeparate, Change, ChangeBetween, EitherApplies, ExactlyOne, Form, IsWithin, Permanent, Two, Window}
 use Rattle.cif_weeks.proofs.Names.{arith, inl, inr, subst, sym, week_of, ℕ, ◌+◌, ◌<◌, ◌↔◌, ◌∙◌, ◌≡◌, ◌≤◌}
-use Rattle.cif_weeks.proofs.AlignedDays.{week_of-applies}
+use Rattle.cif_weeks.{proofs.AlignedDays.week_of-applies, specs.Applies.Applies}
 use Rattle.cif_weeks.proofs.WeekDays.{same_day, week_of-next, week_of-rises, weekday_of-next}
-use Rattle.cif_weeks.specs.Applies.{Applies}
 
 -- it doesn't matter which of the two is named first
 pub AreSeparate-sym : {B : Type 0} (form : Form) (window : Window) (r s : Permanent B) → AreSeparate form window r s

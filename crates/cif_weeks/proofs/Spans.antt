@@ -1,10 +1,45 @@
 -- The masks of a span's days week by week, and of the days that some of the spans so far have, span by span.
 use Rattle.cif_weeks.proofs.Names.{AgreeOn, Bool, Contains, Contains-append_left, Contains-push, Contains-push_cases, HasDay, HaveOneMask}
-use Rattle.cif_weeks.proofs.Names.{IsAgreed, IsDisputed, IsMask, IsNonDecreasingBy, Leads, List, RunsOn, Shows, SomeOf, Span, Weeks, [], ap}
-use Rattle.cif_weeks.proofs.Names.{arith, cases_eq, cases_lt, get_or, get_or-take, get_or_default, get_or_read_under, inl, inr, length}
-use Rattle.cif_weeks.proofs.Names.{length-take, letter, refl, subst, sym, take, take-append-drop, take_all, take_more, week_of, weekday_of}
-use Rattle.cif_weeks.proofs.Names.{ℕ, ⊎_elim, ◌*◌, ◌++◌, ◌+◌, ◌-◌, ◌<◌, ◌↔◌, ◌∙◌, ◌∷◌, ◌≡◌, ◌≢◌, ◌≤◌, ◌⊎◌}
+use Rattle.cif_weeks.proofs.Names.{IsAgreed, IsAmongDates, IsDisputed, IsMask, IsNonDecreasingBy, IsSpanOf, IsWithin, Leads, List, RunsOn}
+use Rattle.cif_weeks.proofs.Names.{Shows, SomeOf, Span, Terms, Weeks, Window, [], ap, arith, cases_eq, cases_lt, get_or, get_or-take}
+use Rattle.cif_weeks.proofs.Names.{get_or_default, get_or_read_under, inl, inr, is_lt, length, length-take, letter, nat_cmp, refl, rules}
+use Rattle.cif_weeks.proofs.Names.{subst, sym, take, take-append-drop, take_all, take_more, true, week_of, weekday_of, ℕ, ⊎_elim, ◌*◌, ◌++◌}
+use Rattle.cif_weeks.proofs.Names.{◌+◌, ◌-◌, ◌<◌, ◌↔◌, ◌∙◌, ◌∷◌, ◌≡◌, ◌≢◌, ◌≤◌, ◌⊎◌}
+use Rattle.std.specs.Ordering.{ord_max, ord_min}
+use Rattle.cif_calendar.specs.Applies.{Applies}
 use Rattle.cif_weeks.proofs.{Masks.mask-over, Masks.mask_runs, WeekDays.RunsOn-below}
+
+-- a test of two days
+pub day-later : (a b : ℕ) (test : Bool) → test ≡ is_lt (nat_cmp a b) → test ≡ true → a < b
+day-later a b test is holds = search rules
+
+-- the days of a record in a window, whose first is the later of two, and whose last the earlier
+module _ {B : Type 0} (window : Window) (r : Terms B) (first last : ℕ) (begins : first ≡ ord_max nat_cmp r.first window.first)
+    (ends : last ≡ ord_min nat_cmp r.last window.last) where
+  from-both : (r.first ≤ first) × (window.first ≤ first) × ((first ≡ r.first) ⊎ (first ≡ window.first))
+  from-both = (search rules, search rules, search rules)
+
+  upto-both : (last ≤ r.last) × (last ≤ window.last) × ((last ≡ r.last) ⊎ (last ≡ window.last))
+  upto-both = (search rules, search rules, search rules)
+
+  pub span-of : (s : Span) → s.letter ≡ r.letter → ((n : ℕ) → HasDay s n ↔ IsAmongDates first last r.days n) → IsSpanOf window r s
+  span-of s is days = let f = from-both in let l = upto-both in record {
+    same_letter = is;
+    days = λ n. (
+      λ has. let d = (days n).0 has in (
+        record { from = omega (arith, f.1, d.begun); upto = omega (arith, l.1, d.unfinished) },
+        record { begun = omega (arith, f.0, d.begun); unfinished = omega (arith, l.0, d.unfinished); on_weekday = d.on_weekday },
+      ),
+      λ (within, on). (days n).1 (record {
+        begun = omega (arith, f.2, on.begun, within.from);
+        unfinished = omega (arith, l.2, on.unfinished, within.upto);
+        on_weekday = on.on_weekday;
+      }),
+    );
+  }
+
+  pub span-none : last < first → (n : ℕ) → IsWithin window n → ¬ Applies r n
+  span-none none n within on = omega (arith, none, from-both.2, upto-both.2, on.begun, on.unfinished, within.from, within.upto)
 
 -- a week of the span has this mask
 pub span-mask : (s : Span) (week : ℕ) (days : List Bool) → s.first_week ≤ week → week ≤ s.last_week → length days ≡ 7

@@ -4,8 +4,7 @@ use Rattle.cif_weeks.proofs.Names.{IsAlignedOne, IsAlignedTwo, IsWeekOf, List, M
 use Rattle.cif_weeks.proofs.Names.{SayTheSame, SayWhatRuns, Two, Window, ap, arith, cases_eq, cases_lt, inl, inr, refl, same_members, subst}
 use Rattle.cif_weeks.proofs.Names.{sym, week_of, ℕ, ◌+◌, ◌-◌, ◌<◌, ◌∙◌, ◌≡◌, ◌≢◌, ◌≤◌}
 use Rattle.cif_weeks.proofs.AlignedDays.{DayOfWeek, IsTight, day_in_week, full_two, full_week, tight, week_of-applies, within-tight}
-use Rattle.cif_weeks.proofs.WeekDays.{masks_equal}
-use Rattle.cif_weeks.specs.{Applies.Applies, WhatRuns.HasBody}
+use Rattle.cif_weeks.{proofs.WeekDays.masks_equal, specs.Applies.Applies, specs.WhatRuns.HasBody}
 
 -- two records apply on the same days of a week
 record ApplyAlike {B : Type 0} (r s : Permanent B) (week : ℕ) : Type 0 where

@@ -35,7 +35,11 @@ fn is_added(before: &[Span], span: &Span) -> bool
 
 /// Makes the runs of all bodies, rising by first date. The spans are in the order of their first weeks.
 /// `false` if two bodies lead on one date.
-fn add_runs_of_spans(runs: &mut Vec<Run>, spans: &[Span], joining: &Joining) -> Result<bool, AllocError>
+fn add_runs_of_spans(
+    runs: &mut Vec<Run>,
+    spans: &[Span],
+    joining: &Joining,
+) -> Result<bool, AllocError>
     requires none { runs.old.items ≡ [] }
     requires inside { (source n : ℕ) → Shows spans.now source n →
         IsWithin (window_days joining.now.window) n }

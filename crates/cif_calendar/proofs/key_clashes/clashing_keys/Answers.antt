@@ -1,7 +1,6 @@
 -- Key by key (`FoundClashes`): the first run of positions is all of a key, whose clash goes behind.
 use Rattle.cif_calendar.proofs.Names.{All, All-drop, All-nil, All-take, List, [], eqb-true, keyed, length, nil_from_length, subst, sym, ℕ}
-use Rattle.cif_calendar.proofs.Names.{◌<◌}
-use Rattle.cif_calendar.proofs.{FirstClash.same_key-cmp, KeyPositions.all-within}
+use Rattle.cif_calendar.{proofs.Names.◌<◌, proofs.FirstClash.same_key-cmp, proofs.KeyPositions.all-within}
 use Rattle.cif_calendar.proofs.FoundClashes.{AreFound, found-all, found-key, found-nothing}
 use Rattle.cif_calendar.proofs.key_clashes.clashing_keys.Goals as goal
 

@@ -4,8 +4,7 @@ use Rattle.cif_canon.proofs.Names.{HasRecord, Schedule, Some, ap, length, record
 use Rattle.cif_canon.proofs.Names.{schedule_text, subst, sym, ◌<◌, ◌∙◌, ◌≡◌}
 use Rattle.cif_canon.proofs.AppendedTexts.{all-items, appended, one-more, text-is}
 use Rattle.cif_canon.proofs.{RunTexts.record-within, RunTexts.schedule-text, canonical_form.write_schedules.Given.Over}
-use Rattle.cif_canon.proofs.{canonical_form.write_schedules.Goals.After-index-runs-at}
-use Rattle.cif_canon.specs.Steps.Texts.{body_at}
+use Rattle.cif_canon.{proofs.canonical_form.write_schedules.Goals.After-index-runs-at, specs.Steps.Texts.body_at}
 use Rattle.cif_canon.proofs.canonical_form.write_schedules.Goals as goal
 
 has : (g : Over) (c : After-index-runs-at g) → HasRecord (schedule_entries c.args.schedules.now) c.index-runs-at.result

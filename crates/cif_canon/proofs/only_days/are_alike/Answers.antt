@@ -1,9 +1,8 @@
 -- Each calendar has pieces of its own: up to the earlier end `alike-by_pieces` tells of both calendars, date by date.
 use Rattle.cif_canon.proofs.Names.{HoldsFrom, IsTrue, arith, body_on, cases_lt, false≢true, map, refl, sooner, sym, ⊎_elim, ◌↔◌, ◌∙◌, ◌≡◌}
-use Rattle.cif_canon.proofs.Names.{◌≤◌}
+use Rattle.cif_canon.{proofs.Names.◌≤◌, proofs.only_days.are_alike.Given.Over, proofs.only_days.are_alike.Goals.After-are_pieces_alike}
 use Rattle.cif_canon.proofs.DifferentDays.{alike-by_pieces, not-below, piece-bodies, piece-ends}
 use Rattle.cif_canon.proofs.only_days.are_alike.Goals as goal
-use Rattle.cif_canon.proofs.{only_days.are_alike.Given.Over, only_days.are_alike.Goals.After-are_pieces_alike}
 
 pub loop-window-init : goal.loop-window-init
 loop-window-init g c = record {

@@ -1,8 +1,7 @@
 -- So many empty fields are behind the line.
 use Rattle.arrayvec.specs.ArrayString.{array_string_len}
 use Rattle.cif_canon.proofs.Names.{replicate, ◌++◌, ◌+◌, ◌≡◌, ◌≤◌}
-use Rattle.cif_canon.specs.Fields.{after, nothing}
-use Rattle.cif_canon.specs.declared.rows.Format.TheVariants.{Tsv}
+use Rattle.cif_canon.{specs.Fields.after, specs.Fields.nothing, specs.declared.rows.Format.TheVariants.Tsv}
 use Rattle.cif_canon.proofs.rows.push_left_out.Given as goal
 
 abbrev pub invariant-loop : goal.invariant-loop

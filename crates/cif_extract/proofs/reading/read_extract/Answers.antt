@@ -1,13 +1,10 @@
 -- The invariant names the lines so far: one more (`come_more`), one refused (`at_line`) and the end are said of them all.
 use Rattle.cif_extract.proofs.Names.{[], arith, given, known_both, length, nothing_left, progress_of, read_on_both, reading_decides}
 use Rattle.cif_extract.proofs.Names.{reading_ends, reading_faults, reading_line, refl, rules, subst, sym, ◌++◌, ◌+◌, ◌<◌, ◌∙◌, ◌∷◌, ◌≡◌}
-use Rattle.cif_extract.proofs.Names.{◌≤◌}
-use Rattle.cif_columns.proofs.PassedLines.{next_passed}
-use Rattle.cif_columns.specs.declared.ahead.Most.TheVariants.{Of}
-use Rattle.cif_extract.proofs.{FirstRefusals.at_line, ReadCalls.at-fault}
-use Rattle.cif_extract.specs.declared.fault.Fault.TheVariants.{Memory}
+use Rattle.cif_extract.{proofs.Names.◌≤◌, proofs.FirstRefusals.at_line, proofs.ReadCalls.at-fault}
+use Rattle.cif_extract.{specs.declared.fault.Fault.TheVariants.Memory, proofs.ReadingRuns.refused_here, proofs.ReadingRuns.refused_reason}
+use Rattle.cif_columns.{proofs.PassedLines.next_passed, specs.declared.ahead.Most.TheVariants.Of}
 use Rattle.cif_extract.proofs.ReadingRuns.{HasCome, come_more, come_none, comes-end, comes-line_fault, comes-memory, comes-untaken}
-use Rattle.cif_extract.proofs.ReadingRuns.{refused_here, refused_reason}
 use Rattle.cif_extract.proofs.reading.read_extract.Goals as goal
 
 pub loop-columns-preserved-then-goes_on_plainly : goal.loop-columns-preserved-then-goes_on_plainly

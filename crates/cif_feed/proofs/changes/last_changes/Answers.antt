@@ -1,8 +1,7 @@
 -- One change more is the last of its key (`last-more`).
 use Rattle.cif_feed.proofs.Names.{AreLast, Some, at_keys, changes_of, cond, eq_by_cmp, eq_by_cmp_equiv, get, on_equiv, same_by, subst, sym}
-use Rattle.cif_feed.proofs.Names.{take, ◌≡◌}
+use Rattle.cif_feed.{proofs.Names.take, proofs.Names.◌≡◌, specs.Changes.parts_of}
 use Rattle.cif_feed.proofs.ChangeSteps.{changes-long, changes-more, last-more}
-use Rattle.cif_feed.specs.Changes.{parts_of}
 use Rattle.cif_feed.proofs.changes.last_changes.Goals as goal
 
 pub loop-at-preserved : goal.loop-at-preserved

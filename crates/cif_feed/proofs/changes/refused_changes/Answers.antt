@@ -2,10 +2,9 @@
 use Rattle.cif_feed.proofs.Names.{Bool, Option, RefusedLine, SaysThere, Some, [], after_all, ap, append-nil, at_keys, changes_of, cond}
 use Rattle.cif_feed.proofs.Names.{eq_by_cmp, eq_by_cmp_equiv, false, get, is_some, is_there, on_equiv, refusal, refusals, same_by, subst}
 use Rattle.cif_feed.proofs.Names.{sym, take, take_all, unwrap_or, why_unfit, ◌++◌, ◌+◌, ◌∙◌, ◌∷◌, ◌≡◌}
-use Rattle.cif_feed.proofs.{ChangeLaws.after_all-append, changes.refused_changes.Goals.else-not-may_be_applied}
-use Rattle.cif_feed.proofs.{changes.refused_changes.Goals.then-not-may_be_applied+in_ok-push}
+use Rattle.cif_feed.{proofs.ChangeLaws.after_all-append, proofs.changes.refused_changes.Goals.else-not-may_be_applied}
+use Rattle.cif_feed.{proofs.changes.refused_changes.Goals.then-not-may_be_applied+in_ok-push, specs.Changes.parts_of}
 use Rattle.cif_feed.proofs.ChangeSteps.{change-changed, changes-more, refusals-more, says-after}
-use Rattle.cif_feed.specs.Changes.{parts_of}
 use Rattle.cif_feed.proofs.changes.refused_changes.Goals as goal
 
 pub loop-change-preserved : goal.loop-change-preserved

@@ -3,15 +3,11 @@
 use Rattle.cif_feed.proofs.Names.{MarkParts, [], ap, arith, is_comment, is_note, kind_in, known_both, length, nothing_left, read_nothing}
 use Rattle.cif_feed.proofs.Names.{read_on_both, reading_decides, reading_ends, reading_faults, reading_starts, refl, sym, ◌++◌, ◌+◌, ◌<◌}
 use Rattle.cif_feed.proofs.Names.{◌∙◌, ◌∷◌, ◌≡◌, ◌≤◌}
-use Rattle.cif_columns.proofs.PassedLines.{next_passed}
-use Rattle.cif_columns.specs.declared.ahead.Most.TheVariants.{InFeed}
-use Rattle.cif_columns.specs.LineReader.{given}
-use Rattle.cif_extract.proofs.ReadCalls.{at-fault}
-use Rattle.cif_extract.specs.declared.fault.Fault.TheVariants.{Memory}
+use Rattle.cif_columns.{proofs.PassedLines.next_passed, specs.declared.ahead.Most.TheVariants.InFeed, specs.LineReader.given}
+use Rattle.cif_extract.{proofs.ReadCalls.at-fault, specs.declared.fault.Fault.TheVariants.Memory}
 use Rattle.cif_feed.proofs.FeedRuns.{at_feed_line, comes-end, comes-line_fault, comes-memory, comes-untaken, comment_fine, feed_comment}
 use Rattle.cif_feed.proofs.FeedRuns.{feed_line, feed_reason, few_lines, line_why, none_more, none_none, room_more, room_one}
-use Rattle.cif_feed.proofs.SaidLines.{marked_result}
-use Rattle.cif_feed.specs.declared.feed_fault.FeedFault.TheVariants.{Extract}
+use Rattle.cif_feed.{proofs.SaidLines.marked_result, specs.declared.feed_fault.FeedFault.TheVariants.Extract}
 use Rattle.cif_feed.proofs.feed_reading.read_feed.Goals as goal
 
 pub loop-columns-init : goal.loop-columns-init

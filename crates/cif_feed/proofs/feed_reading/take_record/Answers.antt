@@ -1,12 +1,11 @@
 -- It is refused for its fields (`in_place`), or the record that it spells is put (`put_taken`).
 use Rattle.cif_feed.proofs.Names.{IsKeepable, IsMarkedTaken, Kind, LineMark, Ok, Progress, Record, Refusal, Result, Some, SpellsInFeed}
 use Rattle.cif_feed.proofs.Names.{TakeFault, ap, feed_refusal_as, kind_in, mark_of, may_stand, progress_of, read_as, refl, step, sym, true}
-use Rattle.cif_feed.proofs.Names.{◌∙◌, ◌≡◌}
+use Rattle.cif_feed.{proofs.Names.◌∙◌, proofs.Names.◌≡◌, proofs.FeedSteps.in_place, proofs.FeedSteps.put_taken, proofs.MarkLaws.passed_on}
+use Rattle.cif_feed.{proofs.feed_reading.take_record.Goals.Else-not-allows}
 use Rattle.std.specs.Result.{IsErrAnd}
 use Rattle.cif_records.specs.declared.record.Record.TheVariants as of
 use Rattle.cif_extract.specs.declared.reading.TakeFault.TheVariants.{Refused}
-use Rattle.cif_feed.proofs.FeedSteps.{in_place, put_taken}
-use Rattle.cif_feed.proofs.{MarkLaws.passed_on, feed_reading.take_record.Goals.Else-not-allows}
 use Rattle.cif_feed.specs.declared.mark.LineMark.TheVariants as mark
 use Rattle.cif_feed.proofs.feed_reading.take_record.Goals as goal
 

@@ -1,10 +1,7 @@
 -- The extract is prepared with the holidays that were read, and its text is handed on; or it isn't.
-use Rattle.cif_feed.proofs.Names.{Ok}
-use Rattle.cif_extract.proofs.ReadCalls.{at-fault}
+use Rattle.cif_feed.{proofs.Names.Ok, proofs.PreparedRead.unprepared-fault, specs.declared.feed_fault.FeedFault.TheVariants.Extract}
+use Rattle.cif_extract.{proofs.ReadCalls.at-fault, specs.declared.fault.Fault.TheVariants.Write}
 use Rattle.cif_feed.proofs.PreparedRead.{prepared-answer, prepared-read, unhanded-answer, unhanded-read, unprepared-answer}
-use Rattle.cif_feed.proofs.PreparedRead.{unprepared-fault}
-use Rattle.cif_extract.specs.declared.fault.Fault.TheVariants.{Write}
-use Rattle.cif_feed.specs.declared.feed_fault.FeedFault.TheVariants.{Extract}
 use Rattle.cif_feed.proofs.prepare.answer_prepare.Goals as goal
 
 pub returns-in_err-dropped-clause-answer : goal.returns-in_err-dropped-clause-answer

@@ -2,8 +2,7 @@
 use Rattle.cif_feed.proofs.Names.{RefusedLine, [], ap, append-nil, append_assoc, cond, eq-eqb, get_or, last_line, ne_eqb, reported_once}
 use Rattle.cif_feed.proofs.Names.{sym, take, take_more, ℕ, ◌++◌, ◌+◌, ◌==◌, ◌∙◌, ◌∷◌, ◌≡◌}
 use Rattle.cif_feed.proofs.{UpdatesInTurn.last-more, UpdatesInTurn.reported-more, update.report_once.Goals.else-line-last}
-use Rattle.cif_feed.proofs.{update.report_once.Goals.then-line-last+in_ok-push}
-use Rattle.cif_feed.specs.declared.changes.Unfit.TheVariants.{OutOfSequence}
+use Rattle.cif_feed.{proofs.update.report_once.Goals.then-line-last+in_ok-push, specs.declared.changes.Unfit.TheVariants.OutOfSequence}
 use Rattle.cif_feed.proofs.update.report_once.Goals as goal
 
 pub loop-line-preserved : goal.loop-line-preserved

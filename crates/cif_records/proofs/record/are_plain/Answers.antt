@@ -1,7 +1,6 @@
 -- Each test asks for the table of what stands in the line (by `refl`), and `plain_as` has the rest from that.
 use Rattle.cif_records.proofs.Names.{change_in, change_table, extra_in, extra_table, origin_in, origin_table, refl, stop_in, stop_table}
-use Rattle.cif_records.proofs.Names.{terminus_in, terminus_table}
-use Rattle.cif_records.proofs.PlainTests.{plain_as}
+use Rattle.cif_records.{proofs.Names.terminus_in, proofs.Names.terminus_table, proofs.PlainTests.plain_as}
 use Rattle.cif_records.specs.declared.record.Record.TheVariants as of
 use Rattle.cif_records.proofs.record.are_plain.Goals as goal
 

@@ -1,10 +1,9 @@
 -- Of known bytes: where lines have reasons their text is named (`reasons_answer`), else that of the counts, or the fault of counting.
 use Rattle.cif_tool.proofs.Names.{IsOfReading, MAX_LINES, counts_line, extract_parts, goes-on, hands-either, hands-on, refl, reported_text}
-use Rattle.cif_tool.proofs.Names.{subst, unread_of}
+use Rattle.cif_tool.{proofs.Names.subst, proofs.Names.unread_of, proofs.CheckedLines.reasons_answer}
 use Rattle.cif_feed.specs.declared.judged.Judged.TheVariants.{Extract, Reasons}
 use Rattle.cif_tool.proofs.Answered.{handed-text, may-read, nothing-of-input, only-fails, reported-as, status-is}
 use Rattle.cif_tool.proofs.CheckedLines.{counts-not, counts-silent, counts-written, counts_answer, judged_fault, reasons-written}
-use Rattle.cif_tool.proofs.CheckedLines.{reasons_answer}
 use Rattle.cif_tool.proofs.answers.answer_check_all.Goals as goal
 
 pub returns-in_err-reasons : goal.returns-in_err-reasons

@@ -1,8 +1,7 @@
 -- One text is appended behind the other (`both`).
-use Rattle.cif_tool.proofs.Names.{ap, ◌∙◌}
+use Rattle.cif_tool.{proofs.Names.ap, proofs.Names.◌∙◌, specs.Reported.prepared_line, specs.Reported.waived_lines}
 use Rattle.std.specs.List.{flat_map}
 use Rattle.cif_canon.proofs.AppendedTexts.{both, text-is}
-use Rattle.cif_tool.specs.Reported.{prepared_line, waived_lines}
 use Rattle.cif_tool.proofs.feed_run.end_update.Goals as goal
 
 pub returns-in-Ok-clause-reported : goal.returns-in-Ok-clause-reported

@@ -1,8 +1,7 @@
 -- With the columns that are left, the line has them all.
 use Rattle.cif_views.proofs.Names.{drop, map, width, ◌++◌, ◌+◌}
 use Rattle.arrayvec.specs.ArrayString.{array_string_len}
-use Rattle.cif_canon.proofs.ViewLines.{IsGrowing}
-use Rattle.cif_canon.specs.Fields.{after}
+use Rattle.cif_canon.{proofs.ViewLines.IsGrowing, specs.Fields.after}
 use Rattle.cif_views.proofs.CallTexts.{trimmed_field}
 use Rattle.cif_views.proofs.calls.call_line.Given as goal
 

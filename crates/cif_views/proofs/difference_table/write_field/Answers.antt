@@ -1,9 +1,8 @@
 -- The cells are as one (`same-cells`), or else they go behind the row and are one (`other-cells`).
 use Rattle.cif_views.proofs.Names.{Whole, [], column, ◌∙◌, ◌∷◌}
 use Rattle.cif_canon.proofs.AppendedTexts.{nothing, text-is}
-use Rattle.cif_views.proofs.DifferingFields.{other-cells, same-cells}
+use Rattle.cif_views.{proofs.DifferingFields.other-cells, proofs.DifferingFields.same-cells, specs.DifferenceTable.text}
 use Rattle.cif_views.proofs.TableRows.{as-field, copied, more-pushed, row-is}
-use Rattle.cif_views.specs.DifferenceTable.{text}
 use Rattle.cif_views.proofs.difference_table.write_field.Goals as goal
 
 pub returns-then-eq : goal.returns-then-eq

@@ -1,10 +1,8 @@
 -- Journeys with other places have one row, with the numbers of their calls.
 use Rattle.cif_views.proofs.Names.{[], codes, false, number, replicate, same_places, sym, ◌∙◌, ◌∷◌, ◌≡◌}
-use Rattle.cif_canon.proofs.AppendedTexts.{text-is}
-use Rattle.cif_canon.specs.Fields.{nothing}
-use Rattle.cif_views.proofs.PairedJourneys.{other-places}
+use Rattle.cif_canon.{proofs.AppendedTexts.text-is, specs.Fields.nothing}
+use Rattle.cif_views.{proofs.PairedJourneys.other-places, specs.DifferenceTable.text}
 use Rattle.cif_views.proofs.TableRows.{copied, more-pushed, row-is}
-use Rattle.cif_views.specs.DifferenceTable.{text}
 use Rattle.cif_views.proofs.difference_table.write_journeys.Goals as goal
 
 pub returns : goal.returns

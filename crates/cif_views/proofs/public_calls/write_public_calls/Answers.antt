@@ -1,7 +1,6 @@
 -- One line more is written (`one-line`), and where no line is left the text is whole (`none-left`).
 use Rattle.cif_views.proofs.Names.{Tsv, [], ap, arith, is_call, kind_of_line, length, number, refl, row_of_step, step_at, ◌++◌, ◌+◌, ◌∷◌}
-use Rattle.cif_canon.proofs.AppendedTexts.{text-is}
-use Rattle.cif_canon.specs.Fields.{after}
+use Rattle.cif_canon.{proofs.AppendedTexts.text-is, specs.Fields.after}
 use Rattle.cif_views.proofs.PublicRows.{none-left, one-line}
 use Rattle.cif_views.proofs.TableRows.{first-and-rest, next-call, no-lines, some-lines}
 use Rattle.cif_views.proofs.public_calls.write_public_calls.Goals as goal

@@ -2,8 +2,7 @@
 -- than the lines.
 use Rattle.cif_views.proofs.Names.{List, Tsv, [], journey_rows, length, number, rows_of, ℕ, ◌+◌, ◌∷◌, ◌≡◌, ◌≤◌}
 use Rattle.cif_canon.specs.Fields.{after}
-use Rattle.cif_views.proofs.TableRows.{AreLeft}
-use Rattle.cif_views.specs.Steps.GatheredRows.{AreRows, IsGathered}
+use Rattle.cif_views.{proofs.TableRows.AreLeft, specs.Steps.GatheredRows.AreRows, specs.Steps.GatheredRows.IsGathered}
 use Rattle.cif_views.proofs.tables.write_journey.Given as goal
 
 abbrev pub invariant-loop-lines : goal.invariant-loop-lines

@@ -1,8 +1,7 @@
 -- The line of the names goes first, and then the rows, by the table.
 use Rattle.cif_views.proofs.Names.{IsAppended, answered, ap, both, flat_map, header_fields, row_line, table_heading, table_rows, table_text}
-use Rattle.cif_views.proofs.Names.{tiploc_fields}
+use Rattle.cif_views.{proofs.Names.tiploc_fields, proofs.TableRows.listed-rows}
 use Rattle.cif_canon.proofs.AppendedTexts.{text-is}
-use Rattle.cif_views.proofs.TableRows.{listed-rows}
 use Rattle.cif_views.proofs.tables.write_table.Goals as goal
 use Rattle.cif_views.proofs.tables.write_table.Goals.{in-Associations, in-Header, in-Schedules, in-Tiplocs}
 

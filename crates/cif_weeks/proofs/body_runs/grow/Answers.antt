@@ -3,10 +3,9 @@
 use Rattle.cif_weeks.proofs.Names.{AreBodyRuns, Run, Shows, [], ap, arith, length, refl, subst, sym, week_of, weekday_of, window_days, ◌+◌}
 use Rattle.cif_weeks.proofs.Names.{◌-◌, ◌<◌, ◌∙◌, ◌∷◌, ◌≡◌}
 use Rattle.cif_weeks.proofs.BodyRuns.{body-idle, first-date, grow-first, grow-longer, grow-next, last-date, last-made, last-set, made-more}
-use Rattle.cif_weeks.proofs.BodyRuns.{none-made}
+use Rattle.cif_weeks.{proofs.BodyRuns.none-made, proofs.body_runs.grow.Goals.then-start-len+else-week}
 use Rattle.cif_weeks.proofs.body_runs.grow.Goals as goal
 use Rattle.cif_weeks.proofs.body_runs.grow.Goals.{else-start-len, else-week-via-else-week, else-week-via-then-week+else-agree}
-use Rattle.cif_weeks.proofs.body_runs.grow.Goals.{then-start-len+else-week}
 
 pub returns-in_default : goal.returns-in_default
 returns-in_default c spans old next start (made, are, body) =

@@ -1,12 +1,11 @@
 -- A span is over this one, or its rival, or neither. Those that aren't looked at have no day in these weeks (`some-all`).
 use Rattle.cif_weeks.proofs.Names.{arith, iff_false, sym, ◌∙◌}
-use Rattle.cif_weeks.proofs.LetterOrder.{letter-before, letter-same}
+use Rattle.cif_weeks.{proofs.LetterOrder.letter-before, proofs.LetterOrder.letter-same, proofs.Spans.take_next}
+use Rattle.cif_weeks.{proofs.body_runs.weeks_led.Goals.then-loop-other-test+then-last-other, proofs.body_runs.weeks_led.Goals.then-lt}
 use Rattle.cif_weeks.proofs.Spans.{AreLater, later-none, later-rest, led-agreed, led-disputed, led-weeks, some-all, some-more, some-same}
-use Rattle.cif_weeks.proofs.Spans.{take_next}
 use Rattle.cif_weeks.proofs.body_runs.weeks_led.Goals as goal
 use Rattle.cif_weeks.proofs.body_runs.weeks_led.Goals.{After-fits, else-eq-via-else-eq, else-eq-via-then-eq+else-other-span}
 use Rattle.cif_weeks.proofs.body_runs.weeks_led.Goals.{else-loop-other-test, else-lt+else-eq, else-lt+then-eq+then-other-span}
-use Rattle.cif_weeks.proofs.body_runs.weeks_led.Goals.{then-loop-other-test+then-last-other, then-lt}
 
 pub loop-other-preserved : goal.loop-other-preserved
 loop-other-preserved c =

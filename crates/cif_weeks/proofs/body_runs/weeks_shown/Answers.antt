@@ -1,10 +1,8 @@
 -- A span alone leads wherever it is (`alone-weeks`); else each span with this source is one more that may lead.
-use Rattle.cif_weeks.proofs.Names.{arith}
+use Rattle.cif_weeks.{proofs.Names.arith, proofs.Spans.take_next, proofs.body_runs.weeks_shown.Goals.then-span-source-2+in_ok-weeks}
 use Rattle.cif_weeks.proofs.Spans.{AreLater, agree-more, alone-weeks, later-none, later-rest, some-agreed, some-all, some-more, some-same}
-use Rattle.cif_weeks.proofs.Spans.{take_next}
 use Rattle.cif_weeks.proofs.body_runs.weeks_shown.Goals as goal
 use Rattle.cif_weeks.proofs.body_runs.weeks_shown.Goals.{else-loop-span-test, else-span-source-2, then-loop-span-test+then-last-span}
-use Rattle.cif_weeks.proofs.body_runs.weeks_shown.Goals.{then-span-source-2+in_ok-weeks}
 
 pub returns-then-span-source-clause-weeks : goal.returns-then-span-source-clause-weeks
 returns-then-span-source-clause-weeks c = alone-weeks c.args.spans.now c.span-item.result

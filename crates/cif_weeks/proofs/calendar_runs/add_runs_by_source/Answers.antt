@@ -2,9 +2,8 @@
 use Rattle.cif_weeks.proofs.Names.{AreRunsOfBody, IsDisputed, IsPartitionPoint-from_clause, IsPartitionedBy-leb, Shows, Span, arith, leb}
 use Rattle.cif_weeks.proofs.Names.{rules, subst, window_days}
 use Rattle.cif_weeks.proofs.SourceRuns.{EndsSource, count-some, other, own-order, rest-order, runs-all, runs-more, runs-none, shows-all}
-use Rattle.cif_weeks.proofs.SourceRuns.{undisputed, whole-rest}
-use Rattle.cif_weeks.proofs.{SpanRuns.runs-permuted, SpanRuns.runs-sorted}
-use Rattle.cif_weeks.proofs.{calendar_runs.add_runs_by_source.Goals.After-partition_point-count}
+use Rattle.cif_weeks.{proofs.SourceRuns.undisputed, proofs.SourceRuns.whole-rest, proofs.SpanRuns.runs-permuted}
+use Rattle.cif_weeks.{proofs.SpanRuns.runs-sorted, proofs.calendar_runs.add_runs_by_source.Goals.After-partition_point-count}
 use Rattle.cif_weeks.proofs.calendar_runs.add_runs_by_source.Goals as goal
 
 point : (c : After-partition_point-count) → EndsSource c.span-item.result.source c.loop-left.left.now c.partition_point-count.result

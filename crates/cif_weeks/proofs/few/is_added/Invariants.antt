@@ -1,6 +1,5 @@
 -- None of the spans so far has the body.
-use Rattle.cif_weeks.proofs.Names.{AllWithin, ◌≢◌}
-use Rattle.cif_weeks.specs.Steps.BodyRuns.{HasBody}
+use Rattle.cif_weeks.{proofs.Names.AllWithin, proofs.Names.◌≢◌, specs.Steps.BodyRuns.HasBody}
 use Rattle.cif_weeks.proofs.few.is_added.Given as goal
 
 abbrev pub invariant-loop-other : goal.invariant-loop-other

@@ -1,7 +1,6 @@
 -- The text is that of the BS with the lines that were taken, and of the others.
 use Rattle.cif_extract.proofs.Names.{BodyLines, HasFailed, HasWritten, List, Writes, ap, drop, lines_text, subst, writes_err, ℕ, ◌++◌, ◌∙◌}
-use Rattle.cif_extract.proofs.Names.{◌∷◌}
-use Rattle.cif_extract.proofs.WrittenLines.{first_failed, second_writes}
+use Rattle.cif_extract.{proofs.Names.◌∷◌, proofs.WrittenLines.first_failed, proofs.WrittenLines.second_writes}
 use Rattle.cif_extract.proofs.writing.ScheduleWriter.write_with_basic.Goals as goal
 
 pub returns-in_err-write_all-clause-writes : goal.returns-in_err-write_all-clause-writes

@@ -1,7 +1,6 @@
 -- The prepared extract whose text isn't written whole.
 use Rattle.cif_feed.proofs.Names.{Extract}
-use Rattle.cif_extract.proofs.ReadCalls.{at-fault}
-use Rattle.cif_extract.specs.declared.fault.Fault.TheVariants.{Write}
+use Rattle.cif_extract.{proofs.ReadCalls.at-fault, specs.declared.fault.Fault.TheVariants.Write}
 use Rattle.cif_feed.proofs.published_extract.PublishedExtract.append_prepared.Goals as goal
 
 pub returns-in_err-write : goal.returns-in_err-write

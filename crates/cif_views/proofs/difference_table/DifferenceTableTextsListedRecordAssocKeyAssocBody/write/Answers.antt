@@ -2,8 +2,7 @@
 use Rattle.cif_views.proofs.Names.{AssocBody, AssocKey, Field, List, Listed, Option, Permanent, Trimmed, ap, association_differences}
 use Rattle.cif_views.proofs.Names.{association_head, association_plain, category_fields, change_of, changed, codes, differing_rows, drop}
 use Rattle.cif_views.proofs.Names.{in_record, listed_as, replicate, single_row, sym, type_fields, ℕ, ◌++◌, ◌∙◌}
-use Rattle.cif_canon.proofs.AppendedTexts.{text-is}
-use Rattle.cif_canon.specs.Fields.{nothing}
+use Rattle.cif_canon.{proofs.AppendedTexts.text-is, specs.Fields.nothing}
 use Rattle.cif_views.proofs.{PairedJourneys.shown-change, TableRows.behind-row}
 use Rattle.cif_views.proofs.difference_table.DifferenceTableTextsListedRecordAssocKeyAssocBody.write.Goals as goal
 

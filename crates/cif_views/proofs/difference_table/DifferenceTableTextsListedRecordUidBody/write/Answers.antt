@@ -1,8 +1,7 @@
 -- A record alone has a row, in which its side is shown by its sign (`shown-change`); a pair has the rows of its fields.
 use Rattle.cif_views.proofs.Names.{BodyLines, Field, List, Listed, Option, Permanent, Trimmed, ap, change_of, drop, listed_as, replicate}
 use Rattle.cif_views.proofs.Names.{schedule_differences, schedule_head, schedule_plain, single_row, sym, ℕ, ◌∙◌}
-use Rattle.cif_canon.proofs.AppendedTexts.{text-is}
-use Rattle.cif_canon.specs.Fields.{nothing}
+use Rattle.cif_canon.{proofs.AppendedTexts.text-is, specs.Fields.nothing}
 use Rattle.cif_views.proofs.{PairedJourneys.shown-change, TableRows.behind-row}
 use Rattle.cif_views.proofs.difference_table.DifferenceTableTextsListedRecordUidBody.write.Goals as goal
 

@@ -1,7 +1,6 @@
 -- On the first date the hours are those of the time of day (`text-is`).
 use Rattle.cif_views.proofs.Names.{List, ap, arith, subst, two_digits, two_digits_or_more, ℕ, ◌*◌, ◌++◌, ◌+◌, ◌-◌, ◌/◌, ◌<◌, ◌^◌, ◌∙◌, ◌∷◌}
-use Rattle.cif_views.proofs.Names.{◌≡◌}
-use Rattle.cif_views.proofs.Moments.{short-hours, text-is}
+use Rattle.cif_views.{proofs.Names.◌≡◌, proofs.Moments.short-hours, proofs.Moments.text-is}
 use Rattle.cif_views.proofs.moment.Moment.push_to.Goals as goal
 
 pub returns-then-self-eq-FIRST_DAY-clause-text : goal.returns-then-self-eq-FIRST_DAY-clause-text

@@ -1,7 +1,6 @@
 -- The first four columns say what they do, two and two, and the others what they do, or nothing (`said-columns`).
 use Rattle.cif_views.proofs.Names.{ap, arith, bytes_decides, codes, drop, length, sym, ◌-◌, ◌∙◌, ◌≤◌}
-use Rattle.cif_views.proofs.Riders.{nothing-joined, said-columns}
-use Rattle.cif_views.specs.Steps.PublicRows.{joined}
+use Rattle.cif_views.{proofs.Riders.nothing-joined, proofs.Riders.said-columns, specs.Steps.PublicRows.joined}
 use Rattle.cif_views.proofs.public_calls.Riders.in_columns.Goals as goal
 
 pub returns-then-ends_with : goal.returns-then-ends_with
