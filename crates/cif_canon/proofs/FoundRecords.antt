@@ -73,7 +73,7 @@ module _ {K B : Type 0} (xs ys : List (K × Terms B)) where
 -- ---- what is found of one key more
 
 -- of key k each list is clear, the records of its side say what only it does, and it is known what runs by each
-pub record IsKeyKnown {K B : Type 0} (window : Window) (xs ys : List (K × Terms B)) (found : List (Sided (K × Permanent B))) (k : K) : Type 0
+pub record IsKnown {K B : Type 0} (window : Window) (xs ys : List (K × Terms B)) (found : List (Sided (K × Permanent B))) (k : K) : Type 0
   where
     pub clear : (side : Side) → IsClearFrom (of_key (at_side xs ys side) k) window.first window.last
     pub says : (side : Side) (d : ℕ) (b : B) → IsWithin window d →
@@ -88,7 +88,7 @@ module _ {K B : Type 0} (cmp : K → K → Ordering) (window : Window) (xs ys : 
     pub canonical : (side : Side) → AreCanonical cmp Two window (of_side side found)
     pub in_order : AllPairs (ComesBefore cmp) found
     pub before : (s : Sided (K × Permanent B)) (k : K) → Contains found s → IsLeft cmp xs l ys r k → cmp s.it.0 k ≡ Less
-    pub passed : ArePassed cmp xs ys l r (IsKeyKnown window xs ys found)
+    pub passed : ArePassed cmp xs ys l r (IsKnown window xs ys found)
 
 -- one record comes before another by first date, and where that is the same the left one before the right one
 abbrev DatesBefore : {K B : Type 0} → Sided (K × Permanent B) → Sided (K × Permanent B) → Type 0
@@ -104,7 +104,7 @@ module _ {K B : Type 0} (cmp : K → K → Ordering) (total : IsTotalOrder cmp) 
     (window : Window) (xs ys : List (K × Terms B)) (l r : List ℕ) (runs : List (Sided Run)) (a : AreFound cmp window xs ys l r runs) (k : K)
     (f : IsFirstOfBoth cmp xs l ys r k) (n m : ℕ) (left_front : IsCountOfKey cmp xs l k n) (right_front : IsCountOfKey cmp ys r k m) where
   pub found-turns : AreTurns cmp xs ys l r k (take n l) (drop n l) (take m r) (drop m r)
-  found-turns = turns cmp total same xs ys l r (IsKeyKnown window xs ys a.found) a.passed k f n m left_front right_front
+  found-turns = turns cmp total same xs ys l r (IsKnown window xs ys a.found) a.passed k f n m left_front right_front
 
   module _ (merged : List (Sided Run))
       (given : ArePositionsOf xs k (take n l) → ArePositionsOf ys k (take m r) → AreOfKey window xs ys k merged) where
@@ -168,7 +168,7 @@ module _ {K B : Type 0} (cmp : K → K → Ordering) (total : IsTotalOrder cmp) 
         (by-dates i j d less within)
 
     -- for the key itself
-    known-here : IsKeyKnown window xs ys (a.found ++ zipped.found) k
+    known-here : IsKnown window xs ys (a.found ++ zipped.found) k
     known-here = record {
       clear = o.clear;
       says = λ side d b within.
@@ -181,7 +181,7 @@ module _ {K B : Type 0} (cmp : K → K → Ordering) (total : IsTotalOrder cmp) 
     }
 
     -- and for another
-    known-there : (j : K) → (j ≡ k → ⊥) → IsKeyKnown window xs ys a.found j → IsKeyKnown window xs ys (a.found ++ zipped.found) j
+    known-there : (j : K) → (j ≡ k → ⊥) → IsKnown window xs ys a.found j → IsKnown window xs ys (a.found ++ zipped.found) j
     known-there j apart t = record {
       clear = t.clear;
       says = λ side d b within.
@@ -205,14 +205,14 @@ module _ {K B : Type 0} (cmp : K → K → Ordering) (total : IsTotalOrder cmp) 
           (λ old. a.before s j old (found-turns.still j left))
           (λ new. subst (λ i. cmp i j ≡ Less) (sym (own-key s new)) (found-turns.later j left))
           (Contains-append_cases a.found zipped.found s in_s);
-      passed = pass cmp total same xs ys l r (IsKeyKnown window xs ys a.found) a.passed k f n m left_front right_front
-          (IsKeyKnown window xs ys (a.found ++ zipped.found)) known-here known-there;
+      passed = pass cmp total same xs ys l r (IsKnown window xs ys a.found) a.passed k f n m left_front right_front
+          (IsKnown window xs ys (a.found ++ zipped.found)) known-here known-there;
     }
 
 -- ---- of a key without entries
 
 known-idle : {K B : Type 0} (window : Window) (xs ys : List (K × Terms B)) (k : K) →
-    ((side : Side) (t : Terms B) → of_key (at_side xs ys side) k t → ⊥) → IsKeyKnown window xs ys [] k
+    ((side : Side) (t : Terms B) → of_key (at_side xs ys side) k t → ⊥) → IsKnown window xs ys [] k
 known-idle {K} {B} window xs ys k nothing = record {
   clear = λ side. none-clear (of_key (at_side xs ys side) k) (nothing side) window.first window.last;
   says = λ side d b within. (
@@ -238,7 +238,7 @@ found-first {K} {B} cmp total same window xs ys l r left right = record {
   canonical = λ side. canonical-none cmp Two window;
   in_order = λ i j d less within. absurd (omega arith);
   before = λ s k in'. absurd (Contains-none s in');
-  passed = passed-nothing cmp total same xs ys l r left right (IsKeyKnown window xs ys []) (λ k no_x no_y. known-idle window xs ys k
+  passed = passed-nothing cmp total same xs ys l r left right (IsKnown window xs ys []) (λ k no_x no_y. known-idle window xs ys k
       (by-side (λ side. (t : Terms B) → of_key (at_side xs ys side) k t → ⊥) no_x no_y));
 }
 
@@ -258,7 +258,7 @@ same-options None (Some b) no_u no_v (inr apart) = absurd (no_v b refl apart)
 same-options (Some a) v no_u no_v (inr apart) = absurd (no_u a refl (λ e. apart (sym e)))
 
 module _ {K B : Type 0} (window : Window) (xs ys : List (K × Terms B)) (found : List (Sided (K × Permanent B))) where
-  module _ (k : K) (t : IsKeyKnown window xs ys found k) (d : ℕ) (within : IsWithin window d) where
+  module _ (k : K) (t : IsKnown window xs ys found k) (d : ℕ) (within : IsWithin window d) where
     abbrev on : AreRuns xs ys k d
     on = t.runs d within
 
@@ -324,7 +324,7 @@ module _ {K B : Type 0} (window : Window) (xs ys : List (K × Terms B)) (found :
       λ h. (on.runs Left o).0 (same ∙ (on.runs Right o).1 h),
     )
 
-  module _ (known : (k : K) → IsKeyKnown window xs ys found k) where
+  module _ (known : (k : K) → IsKnown window xs ys found k) where
     pub turn-all : TurnInto window xs ys found
     turn-all = record { runs = λ k d o within. turn-on k (known k) d within o }
 
@@ -349,7 +349,7 @@ module _ {K B : Type 0} (window : Window) (xs ys : List (K × Terms B)) (found :
 module _ {K B : Type 0} (cmp : K → K → Ordering) (total : IsTotalOrder cmp) (window : Window) (xs ys : List (K × Terms B))
     (s : Sided (K × Permanent B)) (others : List (Sided (K × Permanent B))) (in_order : AllPairs (ComesBefore cmp) (s ∷ others))
     (canonical : (side : Side) → AreCanonical cmp Two window (of_side side (s ∷ others)))
-    (known : (k : K) → (cmp s.it.0 k ≡ Less → ⊥) → IsKeyKnown window xs ys (s ∷ others) k) where
+    (known : (k : K) → (cmp s.it.0 k ≡ Less → ⊥) → IsKnown window xs ys (s ∷ others) k) where
   -- no record is before it
   from-first : (side : Side) (k : K) (p : Permanent B) → of_key (of_side side (s ∷ others)) k p →
       (cmp s.it.0 k ≡ Less) ⊎ ((s.it.0 ≡ k) × (s.it.1.first ≤ p.first))
@@ -380,7 +380,7 @@ module _ {K B : Type 0} (cmp : K → K → Ordering) (total : IsTotalOrder cmp) 
       (λ same. let begun : h.it.first ≤ d = h.applies.begun in let from = same.1 in omega (arith, begun, from, less))
       (from-first side s.it.0 h.it h.listed)
 
-  here : IsKeyKnown window xs ys (s ∷ others) s.it.0
+  here : IsKnown window xs ys (s ∷ others) s.it.0
   here = known s.it.0 (not_less cmp total s.it.0 s.it.0 refl)
 
   -- on its first day it applies
@@ -429,7 +429,7 @@ module _ {K B : Type 0} (cmp : K → K → Ordering) (total : IsTotalOrder cmp) 
 module _ {K B : Type 0} (cmp : K → K → Ordering) (total : IsTotalOrder cmp) (window : Window) (xs ys : List (K × Terms B)) where
   of-first : (found : List (Sided (K × Permanent B))) → AllPairs (ComesBefore cmp) found →
       ((side : Side) → AreCanonical cmp Two window (of_side side found)) →
-      ((s : Sided (K × Permanent B)) (k : K) → Contains found s → (cmp s.it.0 k ≡ Less → ⊥) → IsKeyKnown window xs ys found k) →
+      ((s : Sided (K × Permanent B)) (k : K) → Contains found s → (cmp s.it.0 k ≡ Less → ⊥) → IsKnown window xs ys found k) →
       (found ≡ [] → AreSame window xs ys) →
       IsFirstFound cmp window xs ys found × (EntriesSayTheSame xs ys window.first window.last → found ≡ [])
   of-first [] in_order canonical known none = (none refl, λ same. refl)
@@ -441,7 +441,7 @@ module _ {K B : Type 0} (cmp : K → K → Ordering) (total : IsTotalOrder cmp) 
 
   module _ (l r : List ℕ) (runs : List (Sided Run)) (a : AreFound cmp window xs ys l r runs) (extent : Extent) where
     different-runs : (a.found ≡ [] → AreSame window xs ys) →
-        (extent ≡ AllKeys → (k : K) → IsKeyKnown window xs ys a.found k) → AreDifferentRuns cmp window xs ys extent runs
+        (extent ≡ AllKeys → (k : K) → IsKnown window xs ys a.found k) → AreDifferentRuns cmp window xs ys extent runs
     different-runs none known =
         let first = of-first a.found a.in_order a.canonical
         (λ s k in' apart. a.passed.known k (λ left. apart (a.before s k in' left))) none in record {
