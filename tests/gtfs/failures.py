@@ -241,7 +241,8 @@ def check_outputs(counts: Counts, maker: Maker, special: Path) -> None:
 LIST_HEADING = "tiploc,name,latitude,longitude\n"
 FILLED = {
     "coordinates": LIST_HEADING + "ALPHA,Alpha Junction,51,0\n",
-    "one coordinate": LIST_HEADING + "ALPHA,Alpha Junction,,0\n",
+    "a longitude": LIST_HEADING + "ALPHA,Alpha Junction,,0\n",
+    "a latitude": LIST_HEADING + "ALPHA,Alpha Junction,51,\n",
     "a name": LIST_HEADING + "ALPHA,Alpha,,\nOMEGA,Omega,,\n",
     "no name": LIST_HEADING + "ALPHA,,,\n",
     "a place that the extract doesn't list": LIST_HEADING + "NOWHERE,The End,,\n",
@@ -307,12 +308,15 @@ def check_wanted(counts: Counts, maker: Maker, special: Path) -> None:
     renamed.unlink()
     check_filled(counts, maker, special, places)
     check_place_of_wanted(counts, maker, special, unfilled)
+    named = maker.folder / "named.csv"
+    named.write_text(places.read_text().replace(",,", ",Another name,"))
     for text in unfilled, unfilled + "\n", unfilled.replace("\n", "\r\n"):
-        wanted.write_bytes(text.encode())
-        done = maker.run("-o", "folder/feed.zip", "--places", places, special)
-        counts.same("no place is wanted", (0, False), (done.returncode, wanted.exists()))
+        for given in places, named:
+            wanted.write_bytes(text.encode())
+            done = maker.run("-o", "folder/feed.zip", "--places", given, special)
+            counts.same("no place is wanted", (0, False), (done.returncode, wanted.exists()))
     shutil.rmtree(folder)
-    for name in "all.csv", "target.zip":
+    for name in "all.csv", "named.csv", "target.zip":
         (maker.folder / name).unlink()
 
 
