@@ -1,7 +1,6 @@
 -- The positions of entries in the order of their keys, one key after another.
 use Rattle.std.specs.Prelude.{All, AllPairs, Contains, List, None, Option, Some, drop, false, length, slice_get, take, ℕ, ◌<◌, ◌≡◌, ◌≤◌}
-use Rattle.std.specs.Prelude.{◌⊎◌}
-use Rattle.std.specs.{Ordering.is_gt, declared.cmp.Ordering.Ordering, declared.cmp.Ordering.TheVariants.Less}
+use Rattle.std.specs.{Ordering.is_gt, Prelude.◌⊎◌, declared.cmp.Ordering.Ordering, declared.cmp.Ordering.TheVariants.Less}
 use Rattle.cif_calendar.specs.Terms.{Terms}
 
 -- at this position stands an entry of key k

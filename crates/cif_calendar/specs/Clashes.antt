@@ -1,8 +1,7 @@
 -- The keys with a clash in a window, each with its first day.
 use Rattle.std.specs.Prelude.{◌≡◌, ℕ, List, Option, Some, AllPairs, Contains, map, slice_get}
 use Rattle.std.specs.{Option.option_map, declared.cmp.Ordering.Ordering, declared.cmp.Ordering.TheVariants.Less}
-use Rattle.cif_calendar.specs.{Clash.IsClearFrom, Clash.IsFirstClash, Keys.of_key, Terms.Terms}
-use Rattle.cif_calendar.specs.declared.key_clashes.KeyClash.{KeyClash}
+use Rattle.cif_calendar.specs.{Clash.IsClearFrom, Clash.IsFirstClash, Keys.of_key, Terms.Terms, declared.key_clashes.KeyClash.KeyClash}
 
 -- The clashes from `first` to `last`: the keys of which some day has one, rising, each once and with its first such day. A key that isn't
 -- among them is clear on all these days. `cmp` is the order of the keys.

@@ -1,8 +1,7 @@
 -- The associations and the schedules of an extract as entries: their keys and their terms.
 use Rattle.std.specs.Prelude.{ℕ, List, map}
 use Rattle.cif_calendar.specs.Terms.{Terms}
-use Rattle.cif_extract.specs.Body.{BodyLines}
-use Rattle.cif_extract.specs.declared.extract.Schedule.{Schedule}
+use Rattle.cif_extract.specs.{Body.BodyLines, declared.extract.Schedule.Schedule}
 use Rattle.cif_records.specs.declared.{association.AssocBody.AssocBody, association.AssocKey.AssocKey, association.Association.Association}
 
 abbrev pub association_terms : Association → Terms AssocBody

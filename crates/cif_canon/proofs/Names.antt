@@ -63,8 +63,14 @@ pub use Rattle.cif_weeks.proofs.PermanentEntries.{canonical-clear, canonical-dat
 pub use Rattle.cif_weeks.specs.WhatRuns.{HasBody}
 pub use Rattle.cif_weeks.specs.declared.{form.Form.Form, form.Form.TheVariants.One, form.Form.TheVariants.Two, form.Run.Run}
 pub use Rattle.cif_canon.specs.Accepted.{IsAccepted, IsAcceptedWithin, IsClearExtract, SpellsNarrowed}
-pub use Rattle.cif_canon.specs.{Appended.IsAppended, Canon.CanonParts, Canon.IsCanonOf, Meaning.Agree, Meaning.SameMeaning}
-pub use Rattle.cif_canon.specs.{Steps.Tiplocs.AreDistinct}
+pub use Rattle.cif_canon.specs.{Appended.IsAppended, Canon.CanonParts, Canon.IsCanonOf, Differences.marked_tiploc, Differences.of_side}
+pub use Rattle.cif_canon.specs.{Fault.IsReadNarrowedFault, Fault.reading_narrowed, Fields.with_first, Lines.schedule_plain, Meaning.Agree}
+pub use Rattle.cif_canon.specs.{Meaning.SameMeaning, Normalised.normalising, Normalised.reading_canon, Steps.Records.extract_fault}
+pub use Rattle.cif_canon.specs.{Steps.Tiplocs.AreDistinct, declared.asked.Asked.Asked, declared.canonical_form.Counts.Counts}
+pub use Rattle.cif_canon.specs.{declared.differing.Extent.TheVariants.AllKeys, declared.differing.Extent.TheVariants.FirstKey}
+pub use Rattle.cif_canon.specs.{declared.listed_differences.Side.Side, declared.listed_differences.Side.TheVariants.Left}
+pub use Rattle.cif_canon.specs.{declared.listed_differences.Side.TheVariants.Right, declared.listed_differences.Sided.Sided}
+pub use Rattle.cif_canon.specs.{declared.rows.Shape.TheVariants.Trimmed}
 pub use Rattle.cif_canon.specs.Asked.{AskedDatesAreWithin, IsNarrowed, IsNarrowingFault, header_window, nothing_asked, window_asked}
 pub use Rattle.cif_canon.specs.Canonical.{AreCanonicalEntries, IsCanonicalExtract, IsCanonicalOf}
 pub use Rattle.cif_canon.specs.Comparison.{IsCompareFault, IsComparison, IsFirstDifference, IsFirstTiploc}
@@ -72,15 +78,10 @@ unfoldable pub use Rattle.cif_canon.specs.{Differences.differences_text, Fields.
 pub use Rattle.cif_canon.specs.Differences.{AreDifferences, AreDifferentRecords, AreDifferentTiplocs, AreNone, AreOnlyRecords, ComesBefore}
 pub use Rattle.cif_canon.specs.Differences.{DifferencesParts, IsOnlyIn, OnlySays, RunsApplied, SaysNothing, SaysSomething, TurnInto}
 pub use Rattle.cif_canon.specs.Differences.{TurnLeftIntoRight, at_side, is_side, mark, marked_association, marked_schedule, marked_text}
-pub use Rattle.cif_canon.specs.Differences.{marked_tiploc, of_side}
 pub use Rattle.cif_canon.specs.Fault.{IsCanonFault, IsDeviceOrMemory, IsFirstClashIn, IsNormaliseFault, IsOfCheck, IsOfReadNarrowed}
-pub use Rattle.cif_canon.specs.Fault.{IsReadNarrowedFault, reading_narrowed}
 pub use Rattle.cif_canon.specs.Fields.{AreFields, Field, after, century, fields_text, line_of, row_start, separator, shown, width, width_of}
-pub use Rattle.cif_canon.specs.Fields.{with_first}
 pub use Rattle.cif_canon.specs.Lines.{ScheduleLines, association_plain, line_of_association, line_of_tiploc, lines_of, lines_of_schedule}
-pub use Rattle.cif_canon.specs.Lines.{schedule_plain}
 pub use Rattle.cif_canon.specs.Normalised.{FaultWrites, HasCanon, IfWritten, IsCanonOfInput, IsNormalised, Normalises, checking}
-pub use Rattle.cif_canon.specs.Normalised.{normalising, reading_canon}
 pub use Rattle.cif_canon.specs.Pairs.{AreByPairs, ArePair, Listed, are_pair, by_pairs}
 pub use Rattle.cif_canon.specs.Rows.{association_fields, journey_fields, no_association, no_train, place_fields, train_fields}
 pub use Rattle.cif_canon.specs.Steps.Differences.{AreAlikeBy, AreClearIfSame, HasBodies, HoldsFrom}
@@ -88,13 +89,8 @@ pub use Rattle.cif_canon.specs.Steps.OnlySides.{AreAppendedRuns, AreDifferentRun
 pub use Rattle.cif_canon.specs.Steps.OnlySides.{AreOnlyWinners, AreRisingRuns, AreSame, AreSifting, HasMovedOf, IsFirstFound, IsFirstOrder}
 pub use Rattle.cif_canon.specs.Steps.OnlySides.{IsFirstSide, IsOnlyCalendar, IsOnlySource, IsSidedRunOf, RunComesBefore}
 pub use Rattle.cif_canon.specs.Steps.Records.{AreCanonicalRecords, AreRunsOf, AreRunsOfKey, AreSaid, IsKeyFault, IsRecordsFault, IsRunOf}
-pub use Rattle.cif_canon.specs.Steps.Records.{extract_fault}
 pub use Rattle.cif_canon.specs.Steps.Sides.{HasSidedRecord, sided_records, sided_run_text, with_record}
 pub use Rattle.cif_canon.specs.Steps.Texts.{HasRecord, association_run_text, association_text, numbered_text, of_run, record_at, run_text}
 pub use Rattle.cif_canon.specs.Steps.Texts.{schedule_run_text, schedule_text, text_if, tiploc_text}
 pub use Rattle.cif_canon.specs.Steps.Views.{applies_on, listed_of, listed_on}
 pub use Rattle.cif_canon.specs.Views.{AreRunning, DayTexts, IsDayListed, IsTrainListed, TrainTexts}
-pub use Rattle.cif_canon.specs.declared.{asked.Asked.Asked, canonical_form.Counts.Counts, differing.Extent.TheVariants.AllKeys}
-pub use Rattle.cif_canon.specs.declared.{differing.Extent.TheVariants.FirstKey, listed_differences.Side.Side}
-pub use Rattle.cif_canon.specs.declared.{listed_differences.Side.TheVariants.Left, listed_differences.Side.TheVariants.Right}
-pub use Rattle.cif_canon.specs.declared.{listed_differences.Sided.Sided, rows.Shape.TheVariants.Trimmed}

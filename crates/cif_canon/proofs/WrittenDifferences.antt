@@ -1,9 +1,8 @@
 -- The parts of the text of differences, appended one after another.
 use Rattle.cif_canon.proofs.Names.{IsAppended, List, Option, Run, Schedule, Sided, Sink, Tiploc, association_entries, flat_map}
 use Rattle.cif_canon.proofs.Names.{marked_association, marked_schedule, marked_tiploc, schedule_entries, sided_records, sided_run_text, ℕ}
-use Rattle.cif_canon.proofs.Names.{◌++◌}
+use Rattle.cif_canon.proofs.{AppendedTexts.both, AppendedTexts.text-is, Names.◌++◌, SidedTexts.sided-text}
 use Rattle.cif_records.specs.declared.association.Association.{Association}
-use Rattle.cif_canon.proofs.{AppendedTexts.both, AppendedTexts.text-is, SidedTexts.sided-text}
 
 -- the text of runs of associations, of schedules
 abbrev pub associations_text : List Association → List Association → List (Sided Run) → List ℕ

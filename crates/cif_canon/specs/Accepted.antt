@@ -2,8 +2,7 @@
 use Rattle.std.specs.Prelude.{ℕ, List}
 use Rattle.cif_calendar.specs.{Entries.association_entries, Entries.schedule_entries, Keys.AreClear}
 use Rattle.cif_extract.specs.{ExtractParts.ExtractParts, SpellsExtract.BytesSpell, SpellsExtract.BytesSpellWithin}
-use Rattle.cif_canon.specs.Asked.{IsNarrowed}
-use Rattle.cif_canon.specs.declared.asked.Asked.{Asked}
+use Rattle.cif_canon.specs.{Asked.IsNarrowed, declared.asked.Asked.Asked}
 
 -- An extract is clear: on no day of its window do two winners of an association's key, or of a train, have different bodies.
 pub record IsClearExtract (x : ExtractParts) : Type 0 where

@@ -2,8 +2,7 @@
 use Rattle.std.specs.Prelude.{◌≡◌, ◌≤◌, ◌<◌, IfSome, None, unwrap_or}
 use Rattle.cif_extract.specs.ExtractParts.{ExtractParts}
 use Rattle.cif_extract.specs.declared.{fault.Fault.Fault, fault.Fault.TheVariants.OutsideWindow, fault.Fault.TheVariants.WindowReversed}
-use Rattle.cif_records.specs.HeaderColumns.{with_window}
-use Rattle.cif_records.specs.declared.header.Header.{Header}
+use Rattle.cif_records.specs.{HeaderColumns.with_window, declared.header.Header.Header}
 use Rattle.cif_weeks.specs.Window.{Window, IsWithin}
 use Rattle.cif_canon.specs.declared.asked.Asked.{Asked}
 

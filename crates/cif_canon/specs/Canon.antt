@@ -3,9 +3,8 @@ use Rattle.std.specs.Prelude.{◌≡◌, ℕ, List}
 use Rattle.cif_extract.specs.ExtractParts.{ExtractParts}
 use Rattle.cif_weeks.specs.declared.form.Form.{Form}
 use Rattle.cif_canon.specs.{Accepted.IsClearExtract, Asked.IsNarrowed, Canonical.IsCanonicalOf, Counts.counts_of, Lines.ExtractLines}
-use Rattle.cif_canon.specs.{Lines.lines_of}
+use Rattle.cif_canon.specs.{Lines.lines_of, declared.asked.Asked.Asked, declared.canonical_form.Counts.Counts}
 use Rattle.cif_canon.specs.NormalForm.{IsNormalFormAgain, IsReachedFromForms, IsUnique}
-use Rattle.cif_canon.specs.declared.{asked.Asked.Asked, canonical_form.Counts.Counts}
 
 -- what a contract sees of it: its text, its lines by kind, and how many records it has
 pub record CanonParts : Type 0 where

@@ -1,7 +1,6 @@
 -- The canonical form of an extract.
 use Rattle.std.specs.Prelude.{◌≡◌, ℕ, List, AllPairs}
-use Rattle.std.specs.{Cmp.Lexicographic.slice_cmp, Ordering.nat_cmp}
-use Rattle.std.specs.declared.{cmp.Ordering.Ordering, cmp.Ordering.TheVariants.Less}
+use Rattle.std.specs.{Cmp.Lexicographic.slice_cmp, Ordering.nat_cmp, declared.cmp.Ordering.Ordering, declared.cmp.Ordering.TheVariants.Less}
 use Rattle.cif_calendar.specs.{Entries.association_entries, Entries.schedule_entries, Terms.Terms}
 use Rattle.cif_extract.specs.{ExtractParts.ExtractParts, SpellsExtract.BytesSpell, Texts.extract_text}
 use Rattle.cif_records.specs.AssocKey.{key_cmp}

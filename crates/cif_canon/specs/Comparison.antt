@@ -1,15 +1,12 @@
 -- How two extracts differ, and the line that says so.
 use Rattle.std.specs.Prelude.{◌≡◌, ◌≢◌, ◌↔◌, ◌⊎◌, ◌≤◌, ◌<◌, ℕ, List, Option, Contains, ◌++◌, codes}
-use Rattle.std.specs.{Cmp.Lexicographic.slice_cmp, Ordering.nat_cmp}
-use Rattle.std.specs.declared.{cmp.Ordering.Ordering, cmp.Ordering.TheVariants.Less}
+use Rattle.std.specs.{Cmp.Lexicographic.slice_cmp, Ordering.nat_cmp, declared.cmp.Ordering.Ordering, declared.cmp.Ordering.TheVariants.Less}
 use Rattle.cif_calendar.specs.{Entries.association_entries, Entries.schedule_entries, Keys.of_key, Meaning.EntriesSayTheSame, Runs.Runs}
 use Rattle.cif_calendar.specs.{Terms.Terms}
-use Rattle.cif_extract.specs.{Clash.bracketed, Clash.clash_text, ExtractParts.ExtractParts}
+use Rattle.cif_extract.specs.{Clash.bracketed, Clash.clash_text, ExtractParts.ExtractParts, declared.fault.Fault.Fault}
 use Rattle.cif_extract.specs.declared.fault.Clash.TheVariants as clash
-use Rattle.cif_extract.specs.declared.fault.Fault.{Fault}
 use Rattle.cif_extract.specs.declared.fault.Fault.TheVariants.{Ambiguous, Memory, WindowsDiffer}
-use Rattle.cif_records.specs.AssocKey.{key_cmp}
-use Rattle.cif_records.specs.declared.tiploc.Tiploc.{Tiploc}
+use Rattle.cif_records.specs.{AssocKey.key_cmp, declared.tiploc.Tiploc.Tiploc}
 use Rattle.cif_canon.specs.{Accepted.IsClearExtract, Asked.header_window, Fault.IsFirstClashIn, Meaning.Agree}
 use Rattle.cif_canon.specs.declared.comparison.Comparison.{Comparison}
 use Rattle.cif_canon.specs.declared.comparison.Comparison.TheVariants.{Same, Tiploc as DifferentTiploc, Association, Train}

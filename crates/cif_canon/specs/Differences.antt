@@ -5,14 +5,12 @@ use Rattle.std.specs.{Cmp.Lexicographic.slice_cmp, List.flat_map, Ordering.nat_c
 use Rattle.std.specs.declared.{cmp.Ordering.Ordering, cmp.Ordering.TheVariants.Less}
 use Rattle.cif_calendar.specs.{Entries.association_entries, Entries.schedule_entries, Keys.of_key, Terms.Terms}
 use Rattle.cif_calendar.specs.Runs.{BodyRuns, NothingRuns, Runs}
-use Rattle.cif_columns.specs.{Contents.lines_text, Field.plain_line}
-use Rattle.cif_columns.specs.declared.stp.Stp.TheVariants.{P}
+use Rattle.cif_columns.specs.{Contents.lines_text, Field.plain_line, declared.stp.Stp.TheVariants.P}
 use Rattle.cif_extract.specs.{Body.BodyLines, ExtractParts.ExtractParts, Texts.schedule_lines}
 use Rattle.cif_records.specs.{AssocKey.key_cmp, Association.association_rows, Tiploc.tiploc_table}
 use Rattle.cif_records.specs.declared.{association.AssocBody.AssocBody, association.AssocKey.AssocKey, tiploc.Tiploc.Tiploc}
 use Rattle.cif_weeks.specs.{Canonical.AreCanonical, Canonical.Precedes, Permanent.Permanent, WhatRuns.HasBody, Window.IsWithin}
-use Rattle.cif_weeks.specs.{Window.Window}
-use Rattle.cif_weeks.specs.declared.form.Form.TheVariants.{Two}
+use Rattle.cif_weeks.specs.{Window.Window, declared.form.Form.TheVariants.Two}
 use Rattle.cif_canon.specs.{Accepted.IsClearExtract, Asked.header_window}
 use Rattle.cif_canon.specs.declared.{listed_differences.Side.Side, listed_differences.Side.TheVariants.Left}
 use Rattle.cif_canon.specs.declared.{listed_differences.Side.TheVariants.Right, listed_differences.Sided.Sided}

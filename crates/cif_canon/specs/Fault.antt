@@ -9,9 +9,8 @@ use Rattle.cif_extract.specs.declared.{extract.Extract.Extract, fault.Clash.Clas
 use Rattle.cif_extract.specs.declared.{fault.Clash.TheVariants.Train, fault.Fault.Fault}
 use Rattle.cif_extract.specs.declared.fault.Fault.TheVariants.{Ambiguous, OutsideWindow, WindowReversed, Read, Write, Memory}
 use Rattle.cif_records.specs.AssocKey.{key_cmp}
-use Rattle.cif_canon.specs.{Accepted.SpellsNarrowed, Asked.IsNarrowingFault}
+use Rattle.cif_canon.specs.{Accepted.SpellsNarrowed, Asked.IsNarrowingFault, declared.asked.Asked.Asked}
 use Rattle.cif_columns.specs.Source.{Unread}
-use Rattle.cif_canon.specs.declared.asked.Asked.{Asked}
 
 -- The first clash of an extract in its window: that of associations, by the least key and its first day, or, where these are clear,
 -- that of trains.

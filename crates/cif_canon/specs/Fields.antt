@@ -1,7 +1,6 @@
 -- Fields, and the lines that they make: of text, or of a table whose fields have tabs between them.
 use Rattle.std.specs.Prelude.{List, [], codes, if◌then◌else◌, length, map, nat_lt, replicate, slice_index_or, take, ℕ, ⊤, ◌++◌, ◌+◌, ◌∷◌}
-use Rattle.std.specs.Prelude.{◌≡◌}
-use Rattle.std.specs.List.{flat_map, join_with_byte}
+use Rattle.std.specs.{List.flat_map, List.join_with_byte, Prelude.◌≡◌}
 use Rattle.cif_columns.specs.{Line.ArePrintable, Lines.used}
 use Rattle.cif_canon.specs.declared.{rows.Format.Format, rows.Format.TheVariants.Text, rows.Format.TheVariants.Tsv, rows.Shape.Shape}
 use Rattle.cif_canon.specs.declared.rows.Shape.TheVariants.{Date, Trimmed, Whole}

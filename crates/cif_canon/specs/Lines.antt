@@ -1,7 +1,6 @@
 -- The plain lines of an extract, by the kinds of its records.
 use Rattle.std.specs.Prelude.{ℕ, List, Some, map}
-use Rattle.cif_columns.specs.Field.{plain_line}
-use Rattle.cif_columns.specs.declared.stp.Stp.TheVariants.{P}
+use Rattle.cif_columns.specs.{Field.plain_line, declared.stp.Stp.TheVariants.P}
 use Rattle.cif_extract.specs.{Body.BodyLines, Body.detail_of, ExtractParts.ExtractParts, Texts.further_lines, Texts.rows_on}
 pub use Rattle.cif_extract.specs.Texts.{line_of_association, line_of_tiploc}
 use Rattle.cif_extract.specs.declared.extract.Schedule.{Schedule}

@@ -4,8 +4,7 @@ use Rattle.std.specs.Prelude.{◌≡◌, ◌↔◌, ℕ, List, drop}
 use Rattle.cif_extract.specs.ExtractParts.{ExtractParts}
 use Rattle.cif_weeks.specs.declared.form.Form.{Form}
 use Rattle.cif_canon.specs.{Accepted.IsAccepted, Asked.header_window, Asked.nothing_asked, Canonical.IsCanonicalOf, Meaning.Agree}
-use Rattle.cif_canon.specs.{Meaning.SameMeaning}
-use Rattle.cif_canon.specs.declared.asked.Asked.{Asked}
+use Rattle.cif_canon.specs.{Meaning.SameMeaning, declared.asked.Asked.Asked}
 
 -- The bytes are the canonical form of the input, for a window that is asked for: the input is accepted for it as an extract, and they
 -- are canonical and say what that says.

@@ -1,7 +1,6 @@
 -- What `normalise` and `check` answer.
 use Rattle.std.specs.Prelude.{◌≡◌, ◌⊎◌, ℕ, ⊤, List, Option, Result, Ok, Err}
-use Rattle.cif_columns.specs.Sink.{HasFailed, HasWritten}
-use Rattle.cif_columns.specs.declared.sink.Sink.{Sink}
+use Rattle.cif_columns.specs.{Sink.HasFailed, Sink.HasWritten, declared.sink.Sink.Sink}
 use Rattle.cif_extract.specs.{ExtractParts.ExtractParts, ReadCall.ReadCall, ReadCall.reading, ReadFault.is_read}
 use Rattle.cif_extract.specs.declared.{fault.Fault.Fault, fault.Fault.TheVariants.Write}
 use Rattle.cif_weeks.specs.declared.form.Form.{Form}

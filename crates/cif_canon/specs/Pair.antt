@@ -3,8 +3,7 @@ use Rattle.std.specs.Prelude.{◌⊎◌, ℕ, Bool, true, false, List, Some, Res
 use Rattle.cif_columns.specs.declared.line_reader.TheConstants.{MAX_LINES}
 use Rattle.cif_extract.specs.{ExtractParts.ExtractParts, ExtractParts.extract_parts, SpellsExtract.BytesSpellWithin}
 use Rattle.cif_extract.specs.declared.{extract.Extract.Extract, fault.Fault.Fault}
-use Rattle.cif_canon.specs.Asked.{IsNarrowed, IsNarrowingFault}
-use Rattle.cif_canon.specs.declared.asked.Asked.{Asked}
+use Rattle.cif_canon.specs.{Asked.IsNarrowed, Asked.IsNarrowingFault, declared.asked.Asked.Asked}
 
 -- What is asked for of two extracts. Where their common window is asked for, a date that isn't given is the later of the two first
 -- dates, or the earlier of the two last dates.

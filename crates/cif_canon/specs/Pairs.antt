@@ -1,15 +1,13 @@
 -- Differences by pairs: a left record and a right one that differ in nothing but their bodies.
 use Rattle.std.specs.Prelude.{◌≡◌, ℕ, Bool, ◌&&◌, List, [], ◌∷◌, Option, None, Some, Contains, map, nat_eq, if◌then◌else◌}
 use Rattle.std.specs.{Cmp.Lexicographic.pointwise, Cmp.Lexicographic.slice_cmp, List.flat_map, Option.option_map, Ordering.is_eq}
-use Rattle.std.specs.{Ordering.nat_cmp}
+use Rattle.std.specs.{Ordering.nat_cmp, declared.cmp.Ordering.Ordering}
 use Rattle.std.proofs.Math.Bool.{beq}
-use Rattle.std.specs.declared.cmp.Ordering.{Ordering}
 use Rattle.cif_records.specs.AssocKey.{key_cmp}
 use Rattle.cif_weeks.specs.Permanent.{Permanent}
-use Rattle.cif_canon.specs.Differences.{DifferencesParts, is_side}
+use Rattle.cif_canon.specs.{Differences.DifferencesParts, Differences.is_side, declared.listed_differences.Side.TheVariants.Left}
+use Rattle.cif_canon.specs.{declared.listed_differences.Side.TheVariants.Right, declared.listed_differences.Sided.Sided}
 use Rattle.cif_canon.specs.Lines.{ScheduleLines, association_plain, line_of_tiploc, schedule_plain}
-use Rattle.cif_canon.specs.declared.{listed_differences.Side.TheVariants.Left, listed_differences.Side.TheVariants.Right}
-use Rattle.cif_canon.specs.declared.{listed_differences.Sided.Sided}
 
 -- A left and a right record are a pair: they have one key, one first and one last date, and the same days run.
 pub record ArePair {K B : Type 0} (s t : Sided (K × Permanent B)) : Type 0 where

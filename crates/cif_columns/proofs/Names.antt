@@ -8,12 +8,12 @@ pub use Rattle.std.proofs.Common.{nat_eq, nat_le, nat_lt, ne_eqb, neg_ℤ, negsu
 pub use Rattle.std.proofs.Common.{reverse, rules, set, slice_get, slice_index, slice_range, subst, suc, sym, take, take-add}
 pub use Rattle.std.proofs.Common.{take-append-drop, take-take, take_all, take_at, to_z, true, unsigned_abs, w16, w8, zero, ℕ, ℤ, ⊎_elim}
 pub use Rattle.std.proofs.Common.{◌%◌, ◌&&◌, ◌*◌, ◌++◌, ◌+ℤ◌, ◌+◌, ◌-◌, ◌/◌, ◌<ℤ◌, ◌<◌, ◌==◌, ◌^◌, ◌||◌, ◌↔◌, ◌∙◌, ◌∷◌, ◌≡◌, ◌≢◌, ◌≤ℤ◌, ◌≤◌}
-pub use Rattle.std.proofs.Common.{◌⊎◌}
+pub use Rattle.std.proofs.{Common.◌⊎◌, lemmas.Bool.Decides.Decides-eqb, lemmas.Bool.Decides.nat_tests}
+pub use Rattle.std.proofs.{lemmas.List.Elements.same_from_all_zip, lemmas.List.Folds.list_all_more, lemmas.List.Folds.list_any-append}
 pub use Rattle.std.proofs.KnownBytes.{Appends-nil, Appends-trans, Keeps-refl, Keeps-trans}
 pub use Rattle.std.proofs.Math.Seq.{drop-append-add, take-append-add, take-append_seam}
 pub use Rattle.std.proofs.lemmas.Bool.{and_from, and_parts, cases_lt, cond_both, false_from_ne_true, false≢true, not-true, not_from_false}
 pub use Rattle.std.proofs.lemmas.Bool.{or_cases, or_from, or_parts, or_right}
-pub use Rattle.std.proofs.{lemmas.Bool.Decides.Decides-eqb, lemmas.Bool.Decides.nat_tests, lemmas.List.Elements.same_from_all_zip}
 pub use Rattle.std.proofs.lemmas.Grind.{common_steps, flat_map-append, reverse_onto}
 pub use Rattle.std.proofs.lemmas.List.{append_cancel_right, drop-take, drop_more, get_or-append_right, get_or-replicate, get_or-reverse}
 pub use Rattle.std.proofs.lemmas.List.{get_or_append_left, get_or_default, get_or_past, length-map, length-replicate, length-reverse}
@@ -21,7 +21,6 @@ pub use Rattle.std.proofs.lemmas.List.{nil_from_length, replicate-append-replica
 pub use Rattle.std.proofs.lemmas.List.{take-append-le, take_more, take_more_set, take_rest}
 pub use Rattle.std.proofs.lemmas.List.Elements.{All-append, All-cons, All-contains, All-drop, All-from_get_or, All-get_or, All-head}
 pub use Rattle.std.proofs.lemmas.List.Elements.{All-nil, All-push, All-replicate, All-tail, All-take, All-weaker, Contains-append_right}
-pub use Rattle.std.proofs.lemmas.List.Folds.{list_all_more, list_any-append}
 pub use Rattle.std.proofs.lemmas.Nat.{and_le_l, leading_top, or_lt}
 pub use Rattle.std.proofs.lemmas.Option.{get_or_from_slice_get, same_Some, slice_get-get_or, slice_get_within}
 pub use Rattle.std.proofs.lemmas.Slice.Eq.{bytes_eq-Decides, strip_suffix_is, text_from_reads}

@@ -3,10 +3,9 @@ use Rattle.std.specs.Prelude.{IfOk, IfSome, List, MatchResult, Ok, OnErr, Option
 use Rattle.std.specs.Prelude.{take, true, ℕ, ◌<◌, ◌≡◌}
 use Rattle.std.specs.Io.KnownBytes.{Keeps, prepend_known}
 use Rattle.cif_columns.specs.Contents.{AreUndecided, BeginOverlong, ComesFirst, EndsAtFeed, most_by}
-use Rattle.cif_columns.specs.Line.{ArePrintable}
+use Rattle.cif_columns.specs.{Line.ArePrintable, declared.ahead.Ahead.Ahead, declared.ahead.Most.Most}
+use Rattle.cif_columns.specs.{declared.ahead.NextContent.NextContent, declared.source.ReadFault.ReadFault, declared.source.Source.Source}
 use Rattle.cif_columns.specs.Source.{HasFailedToRead, HasReadOn, reader_of, source_ended, source_failed}
-use Rattle.cif_columns.specs.declared.{ahead.Ahead.Ahead, ahead.Most.Most, ahead.NextContent.NextContent, source.ReadFault.ReadFault}
-use Rattle.cif_columns.specs.declared.{source.Source.Source}
 use Rattle.cif_columns.specs.declared.ahead.NextContent.TheVariants as next
 
 -- the bytes that are read and not yet given

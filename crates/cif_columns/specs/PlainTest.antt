@@ -2,10 +2,9 @@
 use Rattle.std.specs.Prelude.{Bool, List, [], codes, false, length, map, nat_le, replicate, slice_index, true, ℕ, ◌&&◌, ◌+◌, ◌-◌, ◌<◌, ◌==◌}
 use Rattle.std.specs.Prelude.{◌||◌, ◌∷◌, ◌≡◌, ◌≤◌, ◌⊎◌}
 use Rattle.std.specs.{List.list_all, Str.bytes_eq}
-use Rattle.cif_columns.specs.{Activities.codes_in, FirstLine.is_printable, Text.text_of}
+use Rattle.cif_columns.specs.{Activities.codes_in, FirstLine.is_printable, Text.text_of, declared.plain_test.PlainTest.PlainTest}
 use Rattle.cif_columns.specs.Field.{AllStandIn, FieldValue, Row, activity_codes, columns, exactly, is_whole_from, plain_line, public_time}
 use Rattle.cif_columns.specs.Field.{row, spare, text, working_time}
-use Rattle.cif_columns.specs.declared.plain_test.PlainTest.{PlainTest}
 
 -- the line spells the table, and is its plain line
 abbrev pub IsPlainLineOf : List Row → List ℕ → Type 0

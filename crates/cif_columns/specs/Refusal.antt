@@ -1,9 +1,8 @@
 -- The numbers and the names of the refusals.
 use Rattle.std.specs.Prelude.{ℕ, List, codes}
-use Rattle.cif_columns.specs.declared.refusal.Refusal.{Refusal}
+use Rattle.cif_columns.specs.{declared.refusal.Refusal.Refusal, declared.refusal.Refusal.TheVariants.UnknownRecord}
 use Rattle.cif_columns.specs.declared.refusal.Refusal.TheVariants.{BadByte, BadDate, BadDays, BadLength, BadStp, BadTime, BankHoliday}
 use Rattle.cif_columns.specs.declared.refusal.Refusal.TheVariants.{DatesReversed, NotFull, OpenEnd, OutOfOrder, TooManyLines, Truncated}
-use Rattle.cif_columns.specs.declared.refusal.Refusal.TheVariants.{UnknownRecord}
 
 -- The number of a refusal. It doesn't say which of several reasons is answered: of one line that is TooManyLines, else BadLength,
 -- BadByte, UnknownRecord, OutOfOrder, and then the first of its fields' reasons in the order of their columns (docs/FORMAT.md).

@@ -1,8 +1,7 @@
 -- What a clause reads of a `Sink`, and what a call that writes owes its sink.
 use Rattle.std.specs.Prelude.{◌≡◌, ℕ, Bool, true, false, List, ◌++◌, Option, Result, Ok, Err}
 use Rattle.std.specs.Io.KnownBytes.{Appends}
-use Rattle.cif_columns.specs.Devices.{OneError}
-use Rattle.cif_columns.specs.declared.sink.Sink.{Sink}
+use Rattle.cif_columns.specs.{Devices.OneError, declared.sink.Sink.Sink}
 
 -- `s.writer()`
 abbrev pub writer_of : {W : Type 0} → Sink W → W

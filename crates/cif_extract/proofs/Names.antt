@@ -12,8 +12,7 @@ pub use Rattle.cif_columns.proofs.GivenLinesLaws.{reading_ends, reading_faults, 
 pub use Rattle.cif_columns.proofs.Names.{All-cons, All-head, All-nil, All-tail, AreCodes, AreWholeContentsAndRest, Fits, HasFailed}
 pub use Rattle.cif_columns.proofs.Names.{HasFailedToRead, HasLineReason, HasReadOn, HasWritten, IsCode, LineReads, Writes, contents_of}
 pub use Rattle.cif_columns.proofs.Names.{is_printable, letter, lines_text, list_all, reader_of, source_failed, take-append-le, take_more}
-pub use Rattle.cif_columns.proofs.Names.{unread_of}
-pub use Rattle.cif_columns.proofs.ReadSources.{failed_after, read_on_both}
+pub use Rattle.cif_columns.proofs.{Names.unread_of, ReadSources.failed_after, ReadSources.read_on_both}
 pub use Rattle.cif_columns.proofs.WrittenTexts.{failed_first, writes_err, writes_on}
 pub use Rattle.cif_columns.specs.GivenLines.{AreAllLines, AreLinesToFailure, AreLinesToFault, IsDecided}
 pub use Rattle.cif_columns.specs.LineReader.{IsNextFault, given, left, limit}

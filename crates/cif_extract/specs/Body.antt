@@ -1,14 +1,12 @@
 -- What a schedule's body is: its plain lines, one a record.
 use Rattle.std.specs.Prelude.{All, Bool, List, None, Some, [], codes, cond, drop, length, map, slice_index_or, slice_range, ℕ, ◌++◌, ◌-◌}
-use Rattle.std.specs.Prelude.{◌∷◌, ◌≡◌}
-use Rattle.std.specs.Str.{bytes_eq}
+use Rattle.std.specs.{Prelude.◌∷◌, Prelude.◌≡◌, Str.bytes_eq}
 use Rattle.cif_columns.specs.Field.{Row, AllStandIn, columns, plain_line}
 use Rattle.cif_columns.specs.Line.{IsLine}
 use Rattle.cif_extract.specs.BodyParts.{BodyParts, body_records, journey_records}
 use Rattle.cif_extract.specs.Call.{call_in}
 use Rattle.cif_records.specs.{Detail.detail_in, Detail.detail_table, Extra.extra_in, Origin.origin_in, Record.record_table}
-use Rattle.cif_records.specs.{Terminus.terminus_in}
-use Rattle.cif_records.specs.declared.{detail.Detail.Detail, record.Record.Record}
+use Rattle.cif_records.specs.{Terminus.terminus_in, declared.detail.Detail.Detail, declared.record.Record.Record}
 
 -- The plain lines of a body: columns 30 to 78 of its BS on a line of their own, its BX if there is one, and its journey. Bodies are
 -- equal where these are.

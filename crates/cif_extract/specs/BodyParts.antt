@@ -1,7 +1,6 @@
 -- The five parts of a schedule's body, and the records that they are.
 use Rattle.std.specs.Prelude.{List, [], ◌∷◌, ◌++◌, Option, None, Some, map}
-use Rattle.cif_extract.specs.Call.{call_record}
-use Rattle.cif_extract.specs.declared.call.Call.{Call}
+use Rattle.cif_extract.specs.{Call.call_record, declared.call.Call.Call}
 use Rattle.cif_records.specs.declared.{detail.Detail.Detail, extra.Extra.Extra, origin.Origin.Origin, record.Record.Record}
 use Rattle.cif_records.specs.declared.{terminus.Terminus.Terminus}
 use Rattle.cif_records.specs.declared.record.Record.TheVariants as of

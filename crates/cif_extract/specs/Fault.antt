@@ -3,10 +3,9 @@ use Rattle.std.specs.Prelude.{ℕ, List, ◌++◌, codes}
 use Rattle.cif_columns.specs.{LineFault.text_of as line_fault_text, Refusal.name_of as refusal_name, Refusal.number_of as refusal_number}
 use Rattle.cif_columns.specs.declared.refusal.LineFault.{LineFault}
 use Rattle.cif_columns.specs.declared.refusal.LineFault.TheVariants as line_fault
-use Rattle.cif_extract.specs.Clash.{clash_text}
-use Rattle.cif_extract.specs.declared.fault.Fault.{Fault}
+use Rattle.cif_extract.specs.{Clash.clash_text, declared.fault.Fault.Fault, declared.fault.Fault.TheVariants.WindowsDiffer}
+use Rattle.cif_extract.specs.{declared.fault.Fault.TheVariants.Write}
 use Rattle.cif_extract.specs.declared.fault.Fault.TheVariants.{Ambiguous, Memory, OutsideWindow, Read, Refused, WindowReversed}
-use Rattle.cif_extract.specs.declared.fault.Fault.TheVariants.{WindowsDiffer, Write}
 
 -- the number of a fault
 abbrev pub number_of : Fault → ℕ

@@ -1,12 +1,9 @@
 -- The first refused line of an input, and its reason.
 use Rattle.std.specs.Prelude.{All, List, None, Option, Some, [], length, nat_lt, slice_index_or, take, ℕ, ◌++◌, ◌+◌, ◌<◌, ◌==◌, ◌∷◌, ◌≡◌}
-use Rattle.std.specs.Prelude.{◌≢◌, ◌⊎◌}
-use Rattle.std.specs.List.{list_all}
-use Rattle.cif_columns.specs.{Contents.contents_of, FirstLine.is_printable, GivenLines.AreLinesToFailure}
-use Rattle.cif_columns.specs.declared.refusal.Refusal.{Refusal}
+use Rattle.std.specs.{List.list_all, Prelude.◌≢◌, Prelude.◌⊎◌}
+use Rattle.cif_columns.specs.{Contents.contents_of, FirstLine.is_printable, GivenLines.AreLinesToFailure, declared.refusal.Refusal.Refusal}
 use Rattle.cif_columns.specs.declared.refusal.Refusal.TheVariants.{BadLength, BadByte, OutOfOrder, Truncated, TooManyLines}
-use Rattle.cif_extract.specs.OrderOfRecords.{may_stand, place_behind}
-use Rattle.cif_extract.specs.declared.place.Place.{Place}
+use Rattle.cif_extract.specs.{OrderOfRecords.may_stand, OrderOfRecords.place_behind, declared.place.Place.Place}
 use Rattle.cif_records.specs.{Checks.first_of, Checks.unless, Kind.kind_in, Record.record_refusal}
 use Rattle.cif_records.specs.declared.{record.Kind.Kind, record.Kind.TheVariants.Zz}
 

@@ -3,8 +3,7 @@
 use Rattle.std.specs.Prelude.{◌≡◌, ◌⊎◌, List, [], ◌∷◌, ◌++◌, Option, None, Some, map}
 use Rattle.cif_columns.specs.Field.{plain_line}
 use Rattle.cif_extract.specs.{Body.BodyLines, Body.body_tables, BodyParts.extra_records, BodyParts.journey_records}
-use Rattle.cif_extract.specs.{ExtractParts.ExtractParts}
-use Rattle.cif_extract.specs.declared.{call.Call.Call, extract.Schedule.Schedule}
+use Rattle.cif_extract.specs.{ExtractParts.ExtractParts, declared.call.Call.Call, declared.extract.Schedule.Schedule}
 use Rattle.cif_records.specs.declared.{basic.Basic.Basic, detail.Detail.Detail, extra.Extra.Extra, origin.Origin.Origin}
 use Rattle.cif_records.specs.declared.{record.Record.Record, terminus.Terminus.Terminus}
 use Rattle.cif_records.specs.declared.record.Record.TheVariants as of

@@ -1,8 +1,7 @@
 -- How a line spells a record: the layouts of this profile, or those of a feed.
 use Rattle.std.specs.Prelude.{ℕ, Bool, List, Option, codes}
 use Rattle.std.specs.Str.{bytes_eq}
-use Rattle.cif_columns.specs.Field.{columns}
-use Rattle.cif_columns.specs.declared.refusal.Refusal.{Refusal}
+use Rattle.cif_columns.specs.{Field.columns, declared.refusal.Refusal.Refusal}
 use Rattle.cif_records.specs.{Kind.kind_in, Record.SpellsRecord, Record.record_refusal}
 use Rattle.cif_records.specs.declared.{record.Kind.Kind, record.Record.Record}
 

@@ -2,8 +2,7 @@
 -- table. That this is the order of the grammar, no less and no more, are laws (proofs/OrderLaws and proofs/GoesOn).
 use Rattle.std.specs.Prelude.{◌≡◌, ℕ, Bool, true, List, [], ◌∷◌, ◌++◌, Option, Some, if◌then◌else◌}
 use Rattle.std.specs.List.{fold, list_any}
-use Rattle.cif_extract.specs.Layouts.{Layouts, own_layouts}
-use Rattle.cif_extract.specs.declared.place.Place.{Place}
+use Rattle.cif_extract.specs.{Layouts.Layouts, Layouts.own_layouts, declared.place.Place.Place}
 use Rattle.cif_extract.specs.declared.place.Place.TheVariants.{Associations, Basic, Cancelled, CancelledExtra, Ended, Extra, Journey}
 use Rattle.cif_extract.specs.declared.place.Place.TheVariants.{Schedules, Start, Tiplocs}
 use Rattle.cif_records.specs.Kind.{identity, is_identity, kind_in}

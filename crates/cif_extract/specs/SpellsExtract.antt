@@ -2,8 +2,7 @@
 use Rattle.std.specs.Prelude.{ℕ, ◌≤◌, List, [], ◌∷◌, All, length}
 use Rattle.cif_columns.specs.{Contents.contents_of, Line.IsLine}
 use Rattle.cif_extract.specs.{ExtractParts.ExtractParts, Grammar.AreExtract}
-use Rattle.cif_records.specs.Record.{SpellsRecord}
-use Rattle.cif_records.specs.declared.record.Record.{Record}
+use Rattle.cif_records.specs.{Record.SpellsRecord, declared.record.Record.Record}
 
 -- each line spells its record, by this relation of a line and a record
 abbrev pub SpellAllBy : (List ℕ → Record → Type 0) → List (List ℕ) → List Record → Type 0

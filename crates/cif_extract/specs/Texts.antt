@@ -1,15 +1,12 @@
 -- The plain lines of an extract and its text.
 use Rattle.std.specs.Prelude.{ℕ, All, Bool, List, [], ◌∷◌, ◌++◌, Option, None, Some, IfSome, drop, map}
 use Rattle.std.specs.{List.flat_map, Option.option_map}
-use Rattle.cif_columns.specs.Contents.{lines_text}
+use Rattle.cif_columns.specs.{Contents.lines_text, declared.stp.Stp.Stp}
 use Rattle.cif_columns.specs.Field.{AllFit, Row, plain_line}
-use Rattle.cif_columns.specs.declared.stp.Stp.{Stp}
 use Rattle.cif_extract.specs.Body.{BodyLines, IsBody, detail_of}
-use Rattle.cif_extract.specs.ExtractParts.{ExtractParts}
-use Rattle.cif_extract.specs.declared.extract.Schedule.{Schedule}
+use Rattle.cif_extract.specs.{ExtractParts.ExtractParts, declared.extract.Schedule.Schedule}
 use Rattle.cif_records.specs.{Association.association_table, Basic.basic_rows, Header.header_table, Tiploc.tiploc_table}
-use Rattle.cif_records.specs.{Trailer.trailer_table}
-use Rattle.cif_records.specs.declared.{association.Association.Association, tiploc.Tiploc.Tiploc}
+use Rattle.cif_records.specs.{Trailer.trailer_table, declared.association.Association.Association, declared.tiploc.Tiploc.Tiploc}
 
 -- the lines that follow a BS: its BX if there is one, and its journey; a cancellation needs none
 abbrev pub further_lines : Option BodyLines → List (List ℕ)

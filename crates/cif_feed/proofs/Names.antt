@@ -36,9 +36,8 @@ pub use Rattle.cif_columns.proofs.Names.{reverse-reverse, same_Some, slice_cmp, 
 pub use Rattle.cif_columns.proofs.Names.{take_rest, weekdays, width_of}
 pub use Rattle.cif_columns.proofs.{PrintableBytes.printable_true, ReadSources.read_nothing}
 pub use Rattle.cif_columns.proofs.WrittenTexts.{failed_second, written_both}
-pub use Rattle.cif_columns.specs.ContentReader.{held}
-pub use Rattle.cif_columns.specs.declared.{ahead.ContentReader.ContentReader, ahead.Most.TheVariants.InFeed, ahead.Most.TheVariants.Of}
-pub use Rattle.cif_columns.specs.declared.{sink.Sink.Sink}
+pub use Rattle.cif_columns.specs.{ContentReader.held, declared.ahead.ContentReader.ContentReader, declared.ahead.Most.TheVariants.InFeed}
+pub use Rattle.cif_columns.specs.{declared.ahead.Most.TheVariants.Of, declared.sink.Sink.Sink}
 pub use Rattle.cif_columns.specs.declared.refusal.Refusal.TheVariants.{BadByte, BadLength, OutOfOrder, TooManyLines}
 pub use Rattle.cif_records.proofs.Headers.{last_is_day}
 pub use Rattle.cif_records.proofs.Judging.{dates_fine, no_open_end, none-some}
@@ -46,9 +45,8 @@ unfoldable pub use Rattle.cif_records.proofs.Names.{record_refusal}
 pub use Rattle.cif_records.proofs.Names.{StandsIn, association_rows, association_rows_by, basic_front_by, basic_table, dates_refusal}
 pub use Rattle.cif_records.proofs.Names.{days_of-stands, header_table, is_identity, kinds, length-plain_line, one_date_value, one_exactly}
 pub use Rattle.cif_records.proofs.Names.{one_indicator, one_weekdays, plain_line-append, stp_in-letter, yymmdd_in-stands}
-pub use Rattle.cif_records.specs.AssocKey.{key_cmp}
-pub use Rattle.cif_records.specs.declared.{association.AssocBody.AssocBody, association.AssocKey.AssocKey, record.Kind.TheVariants.Ta}
-pub use Rattle.cif_records.specs.declared.{record.Kind.TheVariants.Td}
+pub use Rattle.cif_records.specs.{AssocKey.key_cmp, declared.association.AssocBody.AssocBody, declared.association.AssocKey.AssocKey}
+pub use Rattle.cif_records.specs.{declared.record.Kind.TheVariants.Ta, declared.record.Kind.TheVariants.Td}
 pub use Rattle.cif_extract.proofs.{BodyFits.extract_fits, SpelledBytes.one_spelled, SpelledBytes.spelled-refused, TakenLines.refused_so}
 pub use Rattle.cif_extract.proofs.Each.{Each, each_append, each_map}
 pub use Rattle.cif_extract.proofs.FirstRefusals.{none_refused-more, not_true, or_none}
@@ -75,10 +73,9 @@ pub use Rattle.cif_extract.proofs.OneExtract.{Inside, further_inside, laid_out, 
 pub use Rattle.cif_extract.proofs.PlainTexts.{RecordFits, further-fit, further-lines, spelled-fits-by, text-spells}
 pub use Rattle.cif_extract.proofs.ReadCalls.{HandsOn, Makes, Refuses, answers, goes-on, hands-on, of_any, refuses}
 pub use Rattle.cif_extract.proofs.ReadingRuns.{taken_behind, taken_none}
-pub use Rattle.cif_extract.specs.ReadFault.{IsLineNumber}
+pub use Rattle.cif_extract.specs.{ReadFault.IsLineNumber, declared.extract.Schedule.Schedule, declared.fault.Clash.Clash}
+pub use Rattle.cif_extract.specs.{declared.reading.TakeFault.TakeFault, declared.reading.TakeFault.TheVariants.Refused}
 pub use Rattle.cif_extract.specs.Texts.{line_of_association, line_of_tiploc, rows_on}
-pub use Rattle.cif_extract.specs.declared.{extract.Schedule.Schedule, fault.Clash.Clash, reading.TakeFault.TakeFault}
-pub use Rattle.cif_extract.specs.declared.{reading.TakeFault.TheVariants.Refused}
 pub use Rattle.cif_calendar.proofs.Elements.{Contains-cases, Contains-first, Contains-rest}
 pub use Rattle.cif_calendar.proofs.{KeyPositions.all-within, KeyPositions.has-key, RisingLists.Contains-none, RisingLists.not_less}
 pub use Rattle.cif_calendar.proofs.Names.{AnyHasKey, Applies, AreClashDates, AreOfFirstKey, ArePositionsOf, Contains-append_cases}
@@ -97,8 +94,24 @@ unfoldable pub use Rattle.cif_feed.specs.{Dropped.dropped_text, FeedRefusal.feed
 pub use Rattle.cif_feed.specs.Dropped.{AreClashDays, AreDropped, more_text}
 pub use Rattle.cif_feed.specs.FeedFault.{IsFailure, IsFeedFault, IsOfFeed, is_feed_read, reading_feed}
 pub use Rattle.cif_feed.specs.{FeedLayouts.feed_layouts, FromLines.ArePairs, FromLines.AreTriples, HolidayDates.IsDateOnDaysRun}
-pub use Rattle.cif_feed.specs.{HolidayDates.IsFirstFrom, LastDay.last_day, PreparedDays.SayAsPublished, PreparedDays.SayOfDay}
-pub use Rattle.cif_feed.specs.{Transaction.transaction_letter, Words.is_space, WrittenOver.with_code, WrittenOver.with_open_end}
+pub use Rattle.cif_feed.specs.{HolidayDates.IsFirstFrom, HolidayText.words_of, Judged.judging, LastDay.last_day, Prepared.published_terms}
+pub use Rattle.cif_feed.specs.{PreparedDays.SayAsPublished, PreparedDays.SayOfDay, PublishedParts.published_text}
+pub use Rattle.cif_feed.specs.{PublishedParts.reading_published, RecordLines.notes_may_stand, RecordLines.record_lines}
+pub use Rattle.cif_feed.specs.{Steps.FeedReading.read_as, Steps.FeedReading.with_passed, Steps.Marks.with_mark}
+pub use Rattle.cif_feed.specs.{Transaction.transaction_letter, UpdateParts.tiploc_changes_of, UpdateParts.update_parts, Words.is_space}
+pub use Rattle.cif_feed.specs.{WrittenOver.with_code, WrittenOver.with_open_end, declared.changes.Action.Action}
+pub use Rattle.cif_feed.specs.{declared.changes.RecordChange.RecordChange, declared.changes.RefusedLine.RefusedLine}
+pub use Rattle.cif_feed.specs.{declared.dropped.Dropped.Dropped, declared.dropped.DroppedKey.DroppedKey}
+pub use Rattle.cif_feed.specs.{declared.feed_fault.FeedFault.FeedFault, declared.feed_line.Feed.Feed}
+pub use Rattle.cif_feed.specs.{declared.feed_line.Feed.TheVariants.Full, declared.feed_reading.FeedExtract.FeedExtract}
+pub use Rattle.cif_feed.specs.{declared.feed_reading.FeedReading.FeedReading, declared.holidays.HolidayCode.HolidayCode}
+pub use Rattle.cif_feed.specs.{declared.holidays.HolidayCodes.HolidayCodes, declared.holidays.Holidays.Holidays}
+pub use Rattle.cif_feed.specs.{declared.mark.LineMark.LineMark, declared.mark.RecordMark.RecordMark, declared.mark.TiplocMark.TiplocMark}
+pub use Rattle.cif_feed.specs.{declared.mark.Transaction.Transaction, declared.prepared_record.PreparedRecord.PreparedRecord}
+pub use Rattle.cif_feed.specs.{declared.prepared_record.RisingDays.RisingDays}
+pub use Rattle.cif_feed.specs.{declared.published_extract.PublishedAssociation.PublishedAssociation}
+pub use Rattle.cif_feed.specs.{declared.published_extract.PublishedExtract.PublishedExtract}
+pub use Rattle.cif_feed.specs.{declared.published_extract.PublishedSchedule.PublishedSchedule, declared.reasons.Reasons.Reasons}
 pub use Rattle.cif_feed.specs.FeedLine.{IsClosedAt, IsDeletion, SpellsAssociationBy, SpellsBasicBy, SpellsInFeed, SpellsTiplocBy}
 pub use Rattle.cif_feed.specs.FeedLine.{cancels_in_feed, code_of, code_value, deleted_association_rows, deleted_basic_rows, deletes}
 pub use Rattle.cif_feed.specs.FeedLine.{end_value, if_allowed, indicator_of, is_open, letter_of, published_association_rows}
@@ -108,49 +121,32 @@ pub use Rattle.cif_feed.specs.FeedRefusal.{fault_for, not_full, untaken_fault}
 pub use Rattle.cif_feed.specs.HolidayCode.{all_codes, code_in, has_code}
 pub use Rattle.cif_feed.specs.HolidayText.{AreCodeAndDates, AreHolidaysOf, AreRead, IsBadLine, IsDate, IsFirstBadLine, IsHolidayFault}
 pub use Rattle.cif_feed.specs.HolidayText.{IsHolidayLine, LineNames, LineSays, NamesDay, SomeLine, SpellHolidays, reading_holidays}
-pub use Rattle.cif_feed.specs.HolidayText.{words_of}
 pub use Rattle.cif_feed.specs.Holidays.{HasMore, IsHoliday, IsHolidayOn, Names, dates_of, holidays_of}
 pub use Rattle.cif_feed.specs.Judged.{HaveReasons, IsJudgedAs, IsJudgedFault, IsJudgedWhole, IsOutOfPlace, IsReadAsJudged, NoneHasReason}
-pub use Rattle.cif_feed.specs.Judged.{judging}
 pub use Rattle.cif_feed.specs.LayoutRefusals.{association_refusal_by, basic_refusal_by, feed_refusal_as, kind_read_as, open_dates_refusal}
 pub use Rattle.cif_feed.specs.Marks.{MarkParts, association_mark, header_from, mark_parts, marks_in, passed_of, schedule_mark, tiploc_mark}
 pub use Rattle.cif_feed.specs.OfProfile.{as_published, association_as_published, of_profile, schedule_as_published}
 pub use Rattle.cif_feed.specs.Parts.{AreParts, IsBefore, IsCut, IsPart, Part, ended}
 pub use Rattle.cif_feed.specs.Prepared.{AreClosed, ArePartsOf, ArePrepared, SayTheSame, part_entry, part_terms, prepared_last}
-pub use Rattle.cif_feed.specs.Prepared.{published_terms}
 pub use Rattle.cif_feed.specs.PreparedParts.{IsPrepared, association_on, prepared_parts, schedule_on}
 pub use Rattle.cif_feed.specs.Published.{AppliesAsPublished, CountOn, IsClashDay, IsHolidayOf, IsStop, PublishedTerms}
 pub use Rattle.cif_feed.specs.PublishedParts.{BytesSpellPublished, IsPublishedAssociation, IsPublishedOf, IsPublishedSchedule}
 pub use Rattle.cif_feed.specs.PublishedParts.{PublishedParts, SayPublished, SpellPublished, published_association_line}
 pub use Rattle.cif_feed.specs.PublishedParts.{published_association_terms, published_associations, published_basic_line, published_lines}
 pub use Rattle.cif_feed.specs.PublishedParts.{published_parts, published_schedule_lines, published_schedule_terms, published_schedules}
-pub use Rattle.cif_feed.specs.PublishedParts.{published_text, reading_published}
 unfoldable pub use Rattle.cif_feed.specs.Reasons.{own_reason, reason_line, reasons_text, reported_text}
 pub use Rattle.cif_feed.specs.Reasons.{ReportReasons, first_for, first_in, is_for, lines_for, lines_in, own_reasons, place_of, reasons_of}
 pub use Rattle.cif_feed.specs.RecordLines.{is_association, is_basic, is_header, is_note, is_of_tiploc, is_record_line, is_trailer, lines_of}
-pub use Rattle.cif_feed.specs.RecordLines.{notes_may_stand, record_lines}
 pub use Rattle.cif_feed.specs.SpellsFeed.{BytesSpellFeed, FeedParts, SayFeed, SpellFeed, feed_parts}
 pub use Rattle.cif_feed.specs.Steps.Changes.{AreLast, IsDone, SaysAlone, SaysThere, at_keys, is_position, last_from, last_line, same_by}
 pub use Rattle.cif_feed.specs.Steps.Counting.{AreClashDatesOn, AreMerged, CountsAmong, HasCodeAt, code_list}
 pub use Rattle.cif_feed.specs.Steps.Dropping.{AreAllFound, AreFound, IsCutAt, IsKeyReported, IsReported, IsStopAmong, ReadsAssociations}
 pub use Rattle.cif_feed.specs.Steps.Dropping.{ReadsDates, ReadsTrains, days_in, days_with, published_by}
 pub use Rattle.cif_feed.specs.Steps.FeedReading.{HasTakenFeed, IsFeedTaken, IsMarkedTaken, IsNoteTaken, IsOwn, IsRecordTaken, IsStopTaken}
-pub use Rattle.cif_feed.specs.Steps.FeedReading.{read_as, with_passed}
 pub use Rattle.cif_feed.specs.Steps.HolidayReading.{HasLineMore, IsDateFault, IsLineFault}
 pub use Rattle.cif_feed.specs.Steps.Judging.{HasJudged, IsFinished, IsInOrder, SomeHasReason}
 pub use Rattle.cif_feed.specs.Steps.Marks.{HasMarks, HaveRoom, IsClosed, header_behind, is_schedule_mark, is_trailer_mark}
 pub use Rattle.cif_feed.specs.Steps.Marks.{last_of_association, last_of_schedule, mark_of, one_if, plus_if, with_counts, with_line}
-pub use Rattle.cif_feed.specs.Steps.Marks.{with_mark}
-pub use Rattle.cif_feed.specs.declared.{changes.Action.Action, changes.RecordChange.RecordChange, changes.RefusedLine.RefusedLine}
-pub use Rattle.cif_feed.specs.declared.{dropped.Dropped.Dropped, dropped.DroppedKey.DroppedKey, feed_fault.FeedFault.FeedFault}
-pub use Rattle.cif_feed.specs.declared.{feed_line.Feed.Feed, feed_line.Feed.TheVariants.Full, feed_reading.FeedExtract.FeedExtract}
-pub use Rattle.cif_feed.specs.declared.{feed_reading.FeedReading.FeedReading, holidays.HolidayCode.HolidayCode}
-pub use Rattle.cif_feed.specs.declared.{holidays.HolidayCodes.HolidayCodes, holidays.Holidays.Holidays, mark.LineMark.LineMark}
-pub use Rattle.cif_feed.specs.declared.{mark.RecordMark.RecordMark, mark.TiplocMark.TiplocMark, mark.Transaction.Transaction}
-pub use Rattle.cif_feed.specs.declared.{prepared_record.PreparedRecord.PreparedRecord, prepared_record.RisingDays.RisingDays}
-pub use Rattle.cif_feed.specs.declared.{published_extract.PublishedAssociation.PublishedAssociation}
-pub use Rattle.cif_feed.specs.declared.{published_extract.PublishedExtract.PublishedExtract}
-pub use Rattle.cif_feed.specs.declared.{published_extract.PublishedSchedule.PublishedSchedule, reasons.Reasons.Reasons}
 pub use Rattle.cif_feed.specs.Steps.PartsSoFar.{AreAdded, ArePartsBefore, IsAdded, IsFromNext, IsLeftFrom, IsPushed, IsStopOn, MayBegin}
 pub use Rattle.cif_feed.specs.Steps.PartsSoFar.{added_before, before_cut, first_upto, records_on, sooner_of}
 pub use Rattle.cif_feed.specs.Steps.Written.{head_text, prepared_association_text, prepared_schedule_text, published_association_text}
@@ -158,7 +154,6 @@ pub use Rattle.cif_feed.specs.Steps.Written.{published_schedule_text, records_te
 pub use Rattle.cif_feed.specs.UpdateLines.{SayTiplocs, SaysAssociation, SaysSchedule, action_rows}
 pub use Rattle.cif_feed.specs.UpdateParts.{AssociationKey, BytesSpellUpdate, IsAssociationChange, IsScheduleChange, IsUpdateOf, SayUpdate}
 pub use Rattle.cif_feed.specs.UpdateParts.{ScheduleKey, SpellUpdate, UpdateParts, change_by, reading_update, tiploc_changes}
-pub use Rattle.cif_feed.specs.UpdateParts.{tiploc_changes_of, update_parts}
 pub use Rattle.cif_feed.specs.Updated.{AreRefusedLines, IsLineRefused, IsUpdateFault, IsUpdated, IsUpdatedBy, MayBeDone}
 pub use Rattle.cif_feed.specs.Updated.{published_association_key, published_schedule_key, refused_header, reported_once, updating}
 pub use Rattle.cif_feed.specs.WrittenPrepared.{AreDroppedIf, FeedWrites, IsDeviceOrMemory, IsPrepareFault, IsPreparedAs, IsPreparedText}

@@ -1,8 +1,7 @@
 -- How many records have a cut, or apply on a day of a clash.
 use Rattle.std.specs.Prelude.{◌≡◌, ◌⊎◌, ◌+◌, ℕ, List, [], ◌∷◌}
-use Rattle.cif_feed.specs.{Parts.IsCut, Parts.ended, Prepared.prepared_last}
+use Rattle.cif_feed.specs.{Parts.IsCut, Parts.ended, Prepared.prepared_last, declared.holidays.Holidays.Holidays}
 use Rattle.cif_feed.specs.Published.{AppliesAsPublished, IsHolidayOf, PublishedTerms}
-use Rattle.cif_feed.specs.declared.holidays.Holidays.{Holidays}
 
 -- a holiday is a cut of the published record, in a window that ends on this day
 abbrev pub HasCut : {B : Type 0} → Holidays → ℕ → PublishedTerms B → Type 0

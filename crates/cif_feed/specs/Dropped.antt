@@ -1,14 +1,11 @@
 -- What is reported of the keys that clash.
 use Rattle.std.specs.Prelude.{AllPairs, Contains, List, codes, decimal, if◌then◌else◌, length, map, slice_index_or, ℕ, ◌++◌, ◌+◌, ◌-◌, ◌<◌}
 use Rattle.std.specs.Prelude.{◌==◌, ◌↔◌, ◌≡◌, ◌≤◌}
-use Rattle.std.specs.{Cmp.Lexicographic.slice_cmp, Ordering.nat_cmp}
-use Rattle.std.specs.declared.{cmp.Ordering.Ordering, cmp.Ordering.TheVariants.Less}
+use Rattle.std.specs.{Cmp.Lexicographic.slice_cmp, Ordering.nat_cmp, declared.cmp.Ordering.Ordering, declared.cmp.Ordering.TheVariants.Less}
 use Rattle.cif_calendar.specs.Clash.{IsClear}
-use Rattle.cif_extract.specs.Clash.{clash_text}
-use Rattle.cif_extract.specs.declared.fault.Clash.{Clash}
+use Rattle.cif_extract.specs.{Clash.clash_text, declared.fault.Clash.Clash}
 use Rattle.cif_extract.specs.declared.fault.Clash.TheVariants as clash
-use Rattle.cif_records.specs.AssocKey.{key_cmp}
-use Rattle.cif_records.specs.declared.association.AssocKey.{AssocKey}
+use Rattle.cif_records.specs.{AssocKey.key_cmp, declared.association.AssocKey.AssocKey}
 use Rattle.cif_feed.specs.CutCount.{AppliesOnAny, IsCountOf}
 use Rattle.cif_feed.specs.Published.{CountOn, IsClashDay, PublishedTerms}
 use Rattle.cif_feed.specs.PublishedParts.{PublishedParts, published_associations, published_schedules}

@@ -1,7 +1,6 @@
 -- Why bytes are no published extract, or no update, or can't be read.
 use Rattle.std.specs.Prelude.{◌≡◌, ℕ, Bool, false, List, IsSomeAnd, Result, Ok, Err}
-use Rattle.cif_columns.specs.{Contents.contents_of, GivenLines.IsDecidedWithinOrLast, Source.Unread}
-use Rattle.cif_columns.specs.declared.ahead.Most.TheVariants.{InFeed}
+use Rattle.cif_columns.specs.{Contents.contents_of, GivenLines.IsDecidedWithinOrLast, Source.Unread, declared.ahead.Most.TheVariants.InFeed}
 use Rattle.cif_extract.specs.{ReadCall.ReadCall, ReadCall.reading, ReadFault.IsLineNumber, ReadFault.is_read}
 use Rattle.cif_extract.specs.declared.fault.Fault.TheVariants.{Refused, Read, Memory}
 use Rattle.cif_feed.specs.FeedRefusal.{IsFeedContent, IsFeedCut, IsFirstOfFeed}

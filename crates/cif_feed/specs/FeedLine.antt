@@ -5,8 +5,7 @@ use Rattle.std.specs.Prelude.{unwrap_or, ℕ, ◌++◌, ◌||◌, ◌∷◌, ◌
 use Rattle.std.specs.Option.{option_map}
 use Rattle.cif_columns.specs.Field.{AllStandIn, FieldValue, Row, columns, columns_from, date, exactly, spare, weekdays}
 use Rattle.cif_columns.specs.{Stp.stp_in, declared.stp.Stp.Stp, declared.stp.Stp.TheVariants.C}
-use Rattle.cif_extract.specs.{Body.detail_of, Layouts.cancels}
-use Rattle.cif_extract.specs.declared.extract.Schedule.{Schedule}
+use Rattle.cif_extract.specs.{Body.detail_of, Layouts.cancels, declared.extract.Schedule.Schedule}
 use Rattle.cif_records.specs.{Association.association_rows_by, Checks.are, Detail.detail_rows, Header.header_rows_by, Kind.kind_in}
 use Rattle.cif_records.specs.{Record.SpellsRecord, Tiploc.SpellsTiploc}
 use Rattle.cif_records.specs.Basic.{basic_back, basic_front_by, terms_of}

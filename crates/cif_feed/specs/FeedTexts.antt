@@ -1,9 +1,8 @@
 -- The numbers, names and texts of the faults of feeds.
 use Rattle.std.specs.Prelude.{ℕ, List, ◌++◌, codes, decimal}
 use Rattle.cif_extract.specs.Fault.{fault_text as extract_text, name_of as extract_name, number_of as extract_number}
-use Rattle.cif_feed.specs.declared.feed_fault.FeedFault.{FeedFault}
+use Rattle.cif_feed.specs.{declared.feed_fault.FeedFault.FeedFault, declared.feed_fault.FeedFault.TheVariants.OutOfSequence}
 use Rattle.cif_feed.specs.declared.feed_fault.FeedFault.TheVariants.{AlreadyThere, BadHoliday, BadTransaction, Extract, NotThere, NotUpdate}
-use Rattle.cif_feed.specs.declared.feed_fault.FeedFault.TheVariants.{OutOfSequence}
 
 -- the number of a fault
 abbrev pub number_of : FeedFault → ℕ

@@ -1,12 +1,10 @@
 -- The first reason to refuse a line of a feed as a record: its fields in the order of their columns, as the layouts of this profile have
 -- them, and what feeds have otherwise.
 use Rattle.std.specs.Prelude.{List, None, Option, Some, [], codes, if◌then◌else◌, is_some, ℕ, ◌||◌, ◌∷◌}
-use Rattle.cif_columns.specs.Field.{columns}
-use Rattle.cif_columns.specs.declared.{refusal.Refusal.Refusal, refusal.Refusal.TheVariants.BankHoliday}
-use Rattle.cif_columns.specs.declared.{refusal.Refusal.TheVariants.NotFull}
+use Rattle.cif_columns.specs.{Field.columns, declared.refusal.Refusal.Refusal, declared.refusal.Refusal.TheVariants.BankHoliday}
+use Rattle.cif_columns.specs.{declared.refusal.Refusal.TheVariants.NotFull}
 use Rattle.cif_records.specs.Checks.{are, date_refusal, dates_refusal, days_refusal, first_of, letter_refusal, unless}
-use Rattle.cif_records.specs.{Header.header_refusal_by, Record.refusal_as}
-use Rattle.cif_records.specs.declared.record.Kind.{Kind}
+use Rattle.cif_records.specs.{Header.header_refusal_by, Record.refusal_as, declared.record.Kind.Kind}
 use Rattle.cif_records.specs.declared.record.Kind.TheVariants.{Aa, Bs, Hd, Ta, Td, Ti}
 use Rattle.cif_feed.specs.FeedLine.{code_of, indicator_of, transaction_at}
 use Rattle.cif_feed.specs.declared.{feed_line.Feed.Feed, feed_line.Feed.TheVariants.Update, holidays.HolidayCodes.HolidayCodes}

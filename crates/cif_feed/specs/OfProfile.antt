@@ -1,8 +1,7 @@
 -- Extracts of this profile and published ones, as one another.
 use Rattle.std.specs.Prelude.{false, None, map}
 use Rattle.std.proofs.lemmas.Bool.{false≢true}
-use Rattle.cif_extract.specs.ExtractParts.{ExtractParts}
-use Rattle.cif_extract.specs.declared.extract.Schedule.{Schedule}
+use Rattle.cif_extract.specs.{ExtractParts.ExtractParts, declared.extract.Schedule.Schedule}
 use Rattle.cif_records.specs.declared.association.Association.{Association}
 use Rattle.cif_feed.specs.{PublishedParts.PublishedParts, declared.published_extract.PublishedAssociation.PublishedAssociation}
 use Rattle.cif_feed.specs.{declared.published_extract.PublishedSchedule.PublishedSchedule}

@@ -1,9 +1,8 @@
 -- The prepared records of published ones.
 use Rattle.std.specs.Prelude.{◌≡◌, ◌↔◌, ℕ, Bool, List, [], ◌∷◌, ◌++◌, Option, All, IsTrue, map, max, if◌then◌else◌}
 use Rattle.cif_calendar.specs.{Clash.IsClear, Runs.Runs, Terms.Records, Terms.Terms, Wins.Wins}
-use Rattle.cif_feed.specs.{LastDay.last_day, Published.PublishedTerms}
+use Rattle.cif_feed.specs.{LastDay.last_day, Published.PublishedTerms, declared.holidays.HolidayCode.HolidayCode}
 use Rattle.cif_feed.specs.Parts.{AreParts, Part, ended}
-use Rattle.cif_feed.specs.declared.holidays.HolidayCode.{HolidayCode}
 
 -- The last day of a record in a prepared extract, by the last day of the window: an open end becomes the later of that and of the first
 -- day.

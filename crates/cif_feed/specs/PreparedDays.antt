@@ -4,10 +4,9 @@ use Rattle.cif_calendar.specs.{Applies.Applies, Clash.IsClear, Entries.associati
 use Rattle.cif_calendar.specs.{Terms.Terms}
 use Rattle.cif_extract.specs.ExtractParts.{ExtractParts}
 use Rattle.cif_records.specs.declared.association.AssocKey.{AssocKey}
-use Rattle.cif_feed.specs.Prepared.{SayTheSame}
+use Rattle.cif_feed.specs.{Prepared.SayTheSame, declared.holidays.Holidays.Holidays}
 use Rattle.cif_feed.specs.Published.{CountOn, IsClashDay, PublishedTerms}
 use Rattle.cif_feed.specs.PublishedParts.{PublishedParts, published_associations, published_schedules}
-use Rattle.cif_feed.specs.declared.holidays.Holidays.{Holidays}
 
 -- What the prepared records say of key k on day d of the window from `first` to the day before `to`.
 pub record SayOfDay {K B : Type 0} (h : Holidays) (drops : Bool) (published : List (K × PublishedTerms B)) (prepared : List (K × Terms B))

@@ -2,8 +2,7 @@
 use Rattle.std.specs.Prelude.{◌≡◌, ℕ, ◌+◌, Bool, List, map, max}
 use Rattle.std.proofs.Math.Nat.{le-max_left}
 use Rattle.cif_calendar.specs.Entries.{association_entries, schedule_entries}
-use Rattle.cif_extract.specs.ExtractParts.{ExtractParts}
-use Rattle.cif_extract.specs.declared.extract.Schedule.{Schedule}
+use Rattle.cif_extract.specs.{ExtractParts.ExtractParts, declared.extract.Schedule.Schedule}
 use Rattle.cif_records.specs.declared.association.Association.{Association}
 use Rattle.cif_feed.specs.{Prepared.ArePrepared, Published.IsStop}
 use Rattle.cif_feed.specs.PublishedParts.{PublishedParts, published_associations, published_schedules}

@@ -2,10 +2,9 @@
 use Rattle.std.specs.Prelude.{◌≡◌, ℕ, ◌≤◌, List, [], ◌∷◌, ◌++◌, None, map, length}
 use Rattle.std.specs.List.{flat_map}
 use Rattle.cif_columns.specs.{Contents.contents_of, Contents.lines_text, Field.plain_line}
-use Rattle.cif_extract.specs.{Body.BodyLines, ReadCall.ReadCall, ReadCall.reading}
+use Rattle.cif_extract.specs.{Body.BodyLines, ReadCall.ReadCall, ReadCall.reading, declared.extract.Schedule.Schedule}
 use Rattle.cif_extract.specs.Texts.{further_lines, line_of_association, line_of_tiploc, rows_on}
 use Rattle.cif_calendar.specs.Entries.{association_terms, schedule_terms}
-use Rattle.cif_extract.specs.declared.extract.Schedule.{Schedule}
 use Rattle.cif_records.specs.{Header.header_table, Trailer.trailer_table}
 use Rattle.cif_records.specs.declared.{association.AssocBody.AssocBody, association.AssocKey.AssocKey, association.Association.Association}
 use Rattle.cif_records.specs.declared.{header.Header.Header, tiploc.Tiploc.Tiploc}

@@ -1,8 +1,7 @@
 -- What an update knows a record by.
 use Rattle.std.specs.Prelude.{ℕ, List}
 use Rattle.cif_calendar.specs.Ranks.{number_after}
-use Rattle.cif_columns.specs.Field.{columns}
-use Rattle.cif_columns.specs.declared.stp.Stp.{Stp}
+use Rattle.cif_columns.specs.{Field.columns, declared.stp.Stp.Stp}
 use Rattle.cif_extract.specs.declared.extract.Schedule.{Schedule}
 use Rattle.cif_records.specs.declared.{association.AssocKey.AssocKey, association.Association.Association, tiploc.Tiploc.Tiploc}
 

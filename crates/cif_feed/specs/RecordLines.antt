@@ -2,8 +2,7 @@
 use Rattle.std.specs.Prelude.{ℕ, Bool, true, false, not, ◌&&◌, ◌||◌, List, Option, Some, filter, codes}
 use Rattle.std.specs.List.{enumerate_from, list_any}
 use Rattle.cif_columns.specs.{Comment.is_comment, Field.columns}
-use Rattle.cif_records.specs.{Checks.are, Kind.kind_in}
-use Rattle.cif_records.specs.declared.record.Kind.{Kind}
+use Rattle.cif_records.specs.{Checks.are, Kind.kind_in, declared.record.Kind.Kind}
 use Rattle.cif_records.specs.declared.record.Kind.TheVariants.{Hd, Ti, Ta, Td, Aa, Bs, Zz}
 
 -- the kinds of a note, TN and LN; no more of it is read

@@ -1,7 +1,6 @@
 -- When an update follows an extract.
 use Rattle.std.specs.Prelude.{ℕ, Bool, ◌||◌, List, replicate}
-use Rattle.cif_records.specs.{Checks.are, HeaderColumns.kept}
-use Rattle.cif_records.specs.declared.header.Header.{Header}
+use Rattle.cif_records.specs.{Checks.are, HeaderColumns.kept, declared.header.Header.Header}
 
 -- the current reference of an extract, columns 33 to 39 of its HD, and its last reference, columns 40 to 46
 abbrev pub current_reference : Header → List ℕ

@@ -1,16 +1,14 @@
 -- What the lines of an update say, by their columns as the layouts have them.
 use Rattle.std.specs.Prelude.{◌≡◌, ℕ, List, [], ◌∷◌, ◌++◌}
 use Rattle.cif_columns.specs.Field.{AllStandIn, Row}
-use Rattle.cif_records.specs.Kind.{kind_in}
+use Rattle.cif_records.specs.{Kind.kind_in, declared.tiploc.Tiploc.Tiploc}
 use Rattle.cif_records.specs.declared.record.Record.TheVariants as of
-use Rattle.cif_records.specs.declared.tiploc.Tiploc.{Tiploc}
 use Rattle.cif_feed.specs.FeedLine.{SpellsInFeed, deleted_association_rows, deleted_basic_rows, published_association_rows}
-use Rattle.cif_feed.specs.FeedLine.{published_basic_rows}
-use Rattle.cif_feed.specs.{HolidayCode.all_codes, Marks.tiploc_mark}
+use Rattle.cif_feed.specs.{FeedLine.published_basic_rows, HolidayCode.all_codes, Marks.tiploc_mark, declared.changes.Action.Action}
+use Rattle.cif_feed.specs.{declared.changes.RecordChange.RecordChange, declared.feed_line.Feed.TheVariants.Update}
+use Rattle.cif_feed.specs.{declared.mark.Transaction.Transaction, declared.published_extract.PublishedAssociation.PublishedAssociation}
+use Rattle.cif_feed.specs.{declared.published_extract.PublishedSchedule.PublishedSchedule}
 use Rattle.cif_feed.specs.UpdateParts.{AssociationKey, ScheduleKey, tiploc_changes_of}
-use Rattle.cif_feed.specs.declared.{changes.Action.Action, changes.RecordChange.RecordChange, feed_line.Feed.TheVariants.Update}
-use Rattle.cif_feed.specs.declared.{mark.Transaction.Transaction, published_extract.PublishedAssociation.PublishedAssociation}
-use Rattle.cif_feed.specs.declared.{published_extract.PublishedSchedule.PublishedSchedule}
 use Rattle.cif_feed.specs.declared.changes.Action.TheVariants.{New, Revised, Deleted}
 use Rattle.cif_feed.specs.declared.mark.Transaction.TheVariants as transaction
 

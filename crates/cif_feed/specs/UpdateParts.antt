@@ -1,12 +1,9 @@
 -- What an update holds, and when bytes spell one.
 use Rattle.std.specs.Prelude.{◌≡◌, ℕ, ◌≤◌, List, [], ◌∷◌, ◌++◌, length, if◌then◌else◌}
-use Rattle.cif_columns.specs.Contents.{contents_of}
-use Rattle.cif_columns.specs.declared.stp.Stp.{Stp}
-use Rattle.cif_extract.specs.ReadCall.{ReadCall, reading}
-use Rattle.cif_extract.specs.declared.extract.Schedule.{Schedule}
-use Rattle.cif_records.specs.Checks.{are}
-use Rattle.cif_records.specs.declared.{association.AssocKey.AssocKey, association.Association.Association, header.Header.Header}
-use Rattle.cif_records.specs.declared.{tiploc.Tiploc.Tiploc}
+use Rattle.cif_columns.specs.{Contents.contents_of, declared.stp.Stp.Stp}
+use Rattle.cif_extract.specs.{ReadCall.ReadCall, ReadCall.reading, declared.extract.Schedule.Schedule}
+use Rattle.cif_records.specs.{Checks.are, declared.association.AssocKey.AssocKey, declared.association.Association.Association}
+use Rattle.cif_records.specs.{declared.header.Header.Header, declared.tiploc.Tiploc.Tiploc}
 use Rattle.cif_feed.specs.{Counts.counts_of, FromLines.AreTriples, HolidayCode.all_codes, Marks.passed_of}
 use Rattle.cif_feed.specs.{PublishedParts.IsPublishedAssociation, PublishedParts.IsPublishedSchedule, RecordKeys.tiploc_key}
 use Rattle.cif_feed.specs.{SpellsFeed.FeedParts, SpellsFeed.SpellFeed}

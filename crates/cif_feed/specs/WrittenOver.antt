@@ -1,7 +1,6 @@
 -- Columns that are written over those of a line.
 use Rattle.std.specs.Prelude.{ℕ, ◌+◌, ◌-◌, Bool, List, [], ◌∷◌, ◌++◌, Option, Some, None, codes, drop, length, take, if◌then◌else◌}
-use Rattle.cif_feed.specs.HolidayCode.{letter}
-use Rattle.cif_feed.specs.declared.holidays.HolidayCode.{HolidayCode}
+use Rattle.cif_feed.specs.{HolidayCode.letter, declared.holidays.HolidayCode.HolidayCode}
 
 -- the line with these columns, from the one of this number on, in place of its own
 unfoldable pub with_columns : ℕ → List ℕ → List ℕ → List ℕ

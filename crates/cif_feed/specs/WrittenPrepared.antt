@@ -1,7 +1,6 @@
 -- What comes of preparing what a source gives, and writing it.
 use Rattle.std.specs.Prelude.{Bool, Err, IsSomeAnd, List, Ok, Option, Result, [], false, true, ℕ, ⊤, ◌≡◌}
-use Rattle.cif_columns.specs.{Sink.HasFailed, Sink.HasWritten, Source.Unread}
-use Rattle.cif_columns.specs.declared.sink.Sink.{Sink}
+use Rattle.cif_columns.specs.{Sink.HasFailed, Sink.HasWritten, Source.Unread, declared.sink.Sink.Sink}
 use Rattle.cif_extract.specs.{ExtractParts.ExtractParts, ReadCall.ReadCall, ReadCall.reading, SpellsExtract.BytesSpell, Texts.extract_text}
 use Rattle.cif_extract.specs.declared.fault.Fault.TheVariants.{Memory, Write}
 use Rattle.cif_feed.specs.{Dropped.AreDropped, PreparedParts.IsPrepared}

@@ -2,13 +2,11 @@
 use Rattle.std.proofs.Common.{Bool, List, ap, subst, sym, ℕ, ◌↔◌, ◌∙◌, ◌≡◌}
 use Rattle.cif_canon.proofs.{NormalForms.normal-unique, SameExtracts.one-window}
 use Rattle.cif_canon.specs.{Asked.header_window, Asked.window_asked, Meaning.Agree, Meaning.SameMeaning, NormalForm.IsNormalFormOf}
-use Rattle.cif_canon.specs.{NormalForm.after_first_line}
-use Rattle.cif_canon.specs.declared.asked.Asked.{Asked}
+use Rattle.cif_canon.specs.{NormalForm.after_first_line, declared.asked.Asked.Asked}
 use Rattle.cif_extract.specs.ExtractParts.{ExtractParts}
 use Rattle.cif_feed.specs.{WrittenPrepared.IsPreparedText, declared.dropped.Dropped.Dropped, declared.holidays.Holidays.Holidays}
 use Rattle.cif_records.proofs.Headers.{same_header}
-use Rattle.cif_weeks.specs.Window.{IsWithin, Window}
-use Rattle.cif_weeks.specs.declared.form.Form.{Form}
+use Rattle.cif_weeks.specs.{Window.IsWithin, Window.Window, declared.form.Form.Form}
 use Rattle.cif_laws.proofs.PreparedInputs.{columns-of, says, window-of}
 use Rattle.cif_laws.specs.Feeds.{FeedsAgree, FeedsSayTheSame, SaysWhatFeedSays, columns_asked}
 use Rattle.cif_laws.specs.PublishedFeed.{PublishedFeed, feed_of}

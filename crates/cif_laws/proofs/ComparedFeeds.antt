@@ -1,16 +1,14 @@
 -- What is prepared of two feeds compares and differs as the feeds do.
 use Rattle.std.proofs.Common.{Contains, List, Option, Ordering, Some, arith, subst, ℕ, ◌↔◌, ◌≡◌}
 use Rattle.cif_calendar.specs.{Entries.association_entries, Entries.schedule_entries, Keys.of_key, Runs.Runs, Terms.Terms}
-use Rattle.cif_canon.specs.Asked.{header_window}
+use Rattle.cif_canon.specs.{Asked.header_window, declared.comparison.Comparison.Comparison, declared.listed_differences.Side.Side}
+use Rattle.cif_canon.specs.{declared.listed_differences.Side.TheVariants.Left, declared.listed_differences.Side.TheVariants.Right}
+use Rattle.cif_canon.specs.{declared.listed_differences.Sided.Sided}
 use Rattle.cif_canon.specs.Comparison.{IsComparison, IsFirstDifference, IsFirstTiploc}
 use Rattle.cif_canon.specs.Differences.{AreDifferences, AreDifferentRecords, AreDifferentTiplocs, AreOnlyRecords, DifferencesParts, of_side}
-use Rattle.cif_canon.specs.declared.{comparison.Comparison.Comparison, listed_differences.Side.Side}
-use Rattle.cif_canon.specs.declared.{listed_differences.Side.TheVariants.Left, listed_differences.Side.TheVariants.Right}
-use Rattle.cif_canon.specs.declared.{listed_differences.Sided.Sided}
 use Rattle.cif_canon.specs.declared.comparison.Comparison.TheVariants.{Same, Tiploc as DifferentTiploc, Association, Train}
 use Rattle.cif_extract.specs.ExtractParts.{ExtractParts}
-use Rattle.cif_records.specs.AssocKey.{key_cmp}
-use Rattle.cif_records.specs.declared.tiploc.Tiploc.{Tiploc}
+use Rattle.cif_records.specs.{AssocKey.key_cmp, declared.tiploc.Tiploc.Tiploc}
 use Rattle.cif_weeks.specs.{Permanent.Permanent, Window.IsWithin, Window.Window}
 use Rattle.cif_laws.proofs.CanonicalFeeds.{feeds-agree}
 use Rattle.cif_laws.specs.FeedDifferences.{AreDifferencesOf, AreFeedDifferences, AreOnlyOf, DifferFirst, IsFeedComparison, SaysAt}

@@ -15,8 +15,7 @@ use Rattle.cif_feed.specs.{WrittenExtracts.CodesMayStand, WrittenPrepared.IsPrep
 use Rattle.cif_feed.specs.Parts.{AreParts, HaveDay, IsBefore, IsCut, IsPart, Part}
 use Rattle.cif_feed.specs.declared.{dropped.Dropped.Dropped, holidays.HolidayCode.HolidayCode, holidays.HolidayCode.TheVariants.X}
 use Rattle.cif_feed.specs.declared.{published_extract.PublishedSchedule.PublishedSchedule}
-use Rattle.cif_records.specs.AssocKey.{key_cmp}
-use Rattle.cif_records.specs.declared.association.AssocBody.{AssocBody}
+use Rattle.cif_records.specs.{AssocKey.key_cmp, declared.association.AssocBody.AssocBody}
 use Rattle.cif_weeks.specs.declared.form.Form.TheVariants.{Two}
 use Rattle.cif_laws.proofs.AlikeEntries.{AreAlike, alike-clear, alike-same, more-alike, none-alike, some_on}
 use Rattle.cif_laws.proofs.ExampleDays.{aligned, one-of, permanent, window}

@@ -6,10 +6,9 @@ use Rattle.std.proofs.lemmas.List.Elements.{All-cons, All-nil}
 use Rattle.cif_calendar.proofs.{Elements.Contains-cases, Elements.Contains-first, RisingLists.Contains-none}
 use Rattle.cif_columns.proofs.{DayColumns.yymmdd_in-stands, DayDigits.stands-yymmdd_of}
 use Rattle.cif_columns.specs.{Contents.contents_of, Day.StandsInYymmdd, DayDigits.date_of, DayDigits.yymmdd_of}
-use Rattle.cif_feed.specs.{HolidayCode.letter, Holidays.IsHoliday, Holidays.Names, Words.words_in}
+use Rattle.cif_feed.specs.{HolidayCode.letter, HolidayText.words_of, Holidays.IsHoliday, Holidays.Names, Words.words_in}
+use Rattle.cif_feed.specs.{declared.holidays.HolidayCode.HolidayCode, declared.holidays.Holidays.Holidays}
 use Rattle.cif_feed.specs.HolidayText.{AreCodeAndDates, IsDate, IsHolidayLine, LineNames, LineSays, NamesDay, SomeLine, SpellHolidays}
-use Rattle.cif_feed.specs.HolidayText.{words_of}
-use Rattle.cif_feed.specs.declared.{holidays.HolidayCode.HolidayCode, holidays.Holidays.Holidays}
 use Rattle.cif_feed.specs.declared.holidays.HolidayCode.TheVariants.{E, G, X}
 use denote.RawPtr.{null_ptr}
 use Rattle.cif_laws.specs.Examples.{example_holidays}

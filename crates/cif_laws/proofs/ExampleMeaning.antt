@@ -6,8 +6,7 @@ use Rattle.cif_calendar.specs.{Meaning.EntriesSayTheSame, Terms.Terms}
 use Rattle.cif_canon.specs.{Accepted.IsClearExtract, Asked.nothing_asked, Canonical.IsCanonicalExtract, NormalForm.IsNormalFormOf}
 use Rattle.cif_columns.specs.declared.stp.Stp.TheVariants.{N, P}
 use Rattle.cif_extract.specs.{Body.BodyLines, ExtractParts.ExtractParts}
-use Rattle.cif_records.specs.AssocKey.{key_cmp}
-use Rattle.cif_records.specs.declared.association.AssocBody.{AssocBody}
+use Rattle.cif_records.specs.{AssocKey.key_cmp, declared.association.AssocBody.AssocBody}
 use Rattle.cif_weeks.specs.declared.form.Form.TheVariants.{Two}
 use Rattle.cif_laws.proofs.AlikeEntries.{AreAlike, alike-clear, alike-same, more-alike, none-alike, some_on}
 use Rattle.cif_laws.proofs.ExampleDays.{aligned, one-of, permanent, window}

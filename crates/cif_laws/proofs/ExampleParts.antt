@@ -5,9 +5,8 @@ use Rattle.cif_columns.proofs.{DayColumns.ddmmyy_in-stands, DayDigits.stands-ddm
 use Rattle.cif_columns.specs.{Day.ddmmyy_in, Field.AllFit, Text.text_of}
 use Rattle.cif_columns.specs.DayDigits.{date_of, ddmmyy_of, yymmdd_of}
 use Rattle.cif_columns.specs.declared.{stp.Stp.Stp, stp.Stp.TheVariants.N, stp.Stp.TheVariants.P}
-use Rattle.cif_extract.specs.ExtractParts.{ExtractParts}
+use Rattle.cif_extract.specs.{ExtractParts.ExtractParts, declared.extract.Schedule.Schedule}
 use Rattle.cif_extract.specs.Texts.{FitsColumns, ScheduleFits, extract_text}
-use Rattle.cif_extract.specs.declared.extract.Schedule.{Schedule}
 use Rattle.cif_records.proofs.Headers as headers
 use Rattle.cif_records.specs.{Association.association_table, Bodies.has_body, Tiploc.tiploc_table}
 use Rattle.cif_records.specs.declared.{association.AssocBody.AssocBody, association.AssocKey.AssocKey, association.Association.Association}

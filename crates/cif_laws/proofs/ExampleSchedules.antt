@@ -2,17 +2,14 @@
 use Rattle.std.proofs.Common.{All, Bool, IfSome, List, None, Some, [], arith, codes, false, refl, subst, sym, true, ℕ, ◌∷◌, ◌≡◌, ◌≤◌}
 use Rattle.std.proofs.{lemmas.Bool.false≢true, lemmas.List.Elements.All-cons, lemmas.List.Elements.All-nil}
 use Rattle.cif_columns.specs.DayDigits.{date_of, ddmmyy_of, yymmdd_of}
-use Rattle.cif_columns.specs.{Field.AllFit, Text.text_of}
-use Rattle.cif_columns.specs.declared.stp.Stp.TheVariants.{P}
+use Rattle.cif_columns.specs.{Field.AllFit, Text.text_of, declared.stp.Stp.TheVariants.P}
 use Rattle.cif_extract.specs.Body.{BodyLines, IsBody, body_of, body_tables}
-use Rattle.cif_extract.specs.{BodyParts.BodyParts, BodyParts.body_records, ExtractParts.ExtractParts}
+use Rattle.cif_extract.specs.{BodyParts.BodyParts, BodyParts.body_records, ExtractParts.ExtractParts, declared.extract.Schedule.Schedule}
 use Rattle.cif_extract.specs.Texts.{FitsColumns, ScheduleFits, extract_text, rows_on}
-use Rattle.cif_extract.specs.declared.extract.Schedule.{Schedule}
 use Rattle.cif_feed.specs.{OfProfile.of_profile, PublishedParts.PublishedParts, PublishedParts.published_text, WrittenOver.with_columns}
 use Rattle.cif_feed.specs.declared.holidays.HolidayCode.TheVariants.{X}
-use Rattle.cif_records.specs.Association.{association_table}
-use Rattle.cif_records.specs.declared.{association.Association.Association, detail.Detail.Detail, origin.Origin.Origin}
-use Rattle.cif_records.specs.declared.{terminus.Terminus.Terminus}
+use Rattle.cif_records.specs.{Association.association_table, declared.association.Association.Association, declared.detail.Detail.Detail}
+use Rattle.cif_records.specs.{declared.origin.Origin.Origin, declared.terminus.Terminus.Terminus}
 use Rattle.cif_laws.proofs.ExampleDays.{three-days, two-days}
 use Rattle.cif_laws.proofs.TestedFits.{all_fit, rows-fit, tables-kept}
 use Rattle.cif_laws.proofs.ExampleParts.{example-head, extract-fits, extract-with}

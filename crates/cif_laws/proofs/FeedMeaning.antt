@@ -6,10 +6,9 @@ use Rattle.cif_calendar.specs.{Keys.of_key, Runs.Runs, Terms.Terms}
 use Rattle.cif_extract.specs.ExtractParts.{ExtractParts}
 use Rattle.cif_feed.proofs.PreparedRuns.{in-list, says-published}
 use Rattle.cif_feed.specs.{Dropped.AreClashDays, Dropped.AreDropped, PreparedDays.SayOfDay, WrittenPrepared.AreDroppedIf}
-use Rattle.cif_feed.specs.{WrittenPrepared.IsPreparedAs}
+use Rattle.cif_feed.specs.{WrittenPrepared.IsPreparedAs, declared.dropped.Dropped.Dropped, declared.holidays.Holidays.Holidays}
 use Rattle.cif_feed.specs.Published.{CountOn, IsClashDay, PublishedTerms}
 use Rattle.cif_feed.specs.PublishedParts.{PublishedParts, published_associations, published_schedules}
-use Rattle.cif_feed.specs.declared.{dropped.Dropped.Dropped, holidays.Holidays.Holidays}
 use Rattle.cif_records.specs.declared.association.AssocKey.{AssocKey}
 use Rattle.cif_laws.specs.PublishedFeed.{FeedRuns}
 

@@ -11,10 +11,8 @@ use Rattle.cif_columns.proofs.Names.{take_at}
 use Rattle.cif_extract.proofs.SpelledBytes.{one_spelled}
 use Rattle.cif_extract.specs.ExtractParts.{ExtractParts}
 use Rattle.cif_records.proofs.Headers.{same_header}
-use Rattle.cif_records.specs.HeaderColumns.{with_window}
-use Rattle.cif_records.specs.declared.header.Header.{Header}
-use Rattle.cif_weeks.specs.Window.{IsWithin, Window}
-use Rattle.cif_weeks.specs.declared.form.Form.{Form}
+use Rattle.cif_records.specs.{HeaderColumns.with_window, declared.header.Header.Header}
+use Rattle.cif_weeks.specs.{Window.IsWithin, Window.Window, declared.form.Form.Form}
 use Rattle.cif_columns.specs.DayDigits.{ddmmyy_of}
 use Rattle.cif_laws.proofs.PreparedInputs.{asked-within}
 

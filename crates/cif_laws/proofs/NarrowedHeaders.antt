@@ -5,8 +5,7 @@ use borrow.Rule.Slice.PartMut.{put_mid}
 use Rattle.cif_columns.proofs.{DayColumns.ddmmyy_in-stands, DayDigits.stands-ddmmyy_of, PlainLines.printable-plain_columns}
 use Rattle.cif_columns.specs.{Day.IsDay, Day.ddmmyy_in, DayDigits.ddmmyy_of, Line.ArePrintable, Line.IsPrintable}
 use Rattle.cif_records.proofs.Windows.{are_printable, kept-first, kept-front, kept-indicator, kept-last, still_wide, written}
-use Rattle.cif_records.specs.HeaderColumns.{with_window}
-use Rattle.cif_records.specs.declared.header.Header.{Header}
+use Rattle.cif_records.specs.{HeaderColumns.with_window, declared.header.Header.Header}
 
 -- its digits are those in the order year, month, day
 ddmmyy_printable : (n : ℕ) → IsDay n → ArePrintable (ddmmyy_of n)

@@ -2,9 +2,8 @@
 use Rattle.std.proofs.Common.{Bool, Contains, IfSome, List, None, Option, Some, ap, arith, refl, subst, sym, unwrap_or, ℕ, ◌↔◌, ◌∙◌, ◌≡◌}
 use Rattle.std.proofs.Common.{◌≤◌}
 use Rattle.cif_calendar.specs.{Clash.IsClear, Entries.association_entries, Entries.schedule_entries, Keys.of_key, Runs.Runs}
-use Rattle.cif_canon.specs.Accepted.{IsAcceptedWithin}
+use Rattle.cif_canon.specs.{Accepted.IsAcceptedWithin, declared.asked.Asked.Asked}
 use Rattle.cif_canon.specs.Asked.{AskedDatesAreWithin, IsNarrowed, header_window, window_asked}
-use Rattle.cif_canon.specs.declared.asked.Asked.{Asked}
 use Rattle.cif_extract.proofs.SpelledBytes.{one_spelled}
 use Rattle.cif_extract.specs.{ExtractParts.ExtractParts, SpellsExtract.BytesSpell}
 use Rattle.cif_feed.specs.{WrittenPrepared.IsPreparedText, declared.dropped.Dropped.Dropped, declared.holidays.Holidays.Holidays}

@@ -4,17 +4,15 @@ use Rattle.std.specs.Cmp.Lexicographic.{slice_cmp}
 use Rattle.cif_calendar.proofs.SayTheSame.{EntriesSayTheSame-sym, EntriesSayTheSame-trans}
 use Rattle.cif_calendar.specs.{Entries.association_entries, Entries.schedule_entries, Meaning.EntriesSayTheSame, Terms.Terms}
 use Rattle.cif_canon.proofs.SameExtracts.{agree-sym, agree-trans, one-window}
-use Rattle.cif_canon.specs.{Accepted.IsClearExtract, Asked.header_window, Meaning.Agree, Meaning.SameMeaning}
+use Rattle.cif_canon.specs.{Accepted.IsClearExtract, Asked.header_window, Differences.IsOnlyIn, Differences.of_side, Meaning.Agree}
+use Rattle.cif_canon.specs.{Meaning.SameMeaning, declared.comparison.Comparison.Comparison, declared.listed_differences.Side.Side}
+use Rattle.cif_canon.specs.{declared.listed_differences.Side.TheVariants.Left, declared.listed_differences.Side.TheVariants.Right}
+use Rattle.cif_canon.specs.{declared.listed_differences.Sided.Sided}
 use Rattle.cif_canon.specs.Comparison.{AreCompared, IsComparison, IsFirstDifference, IsFirstTiploc, RunsAlike}
 use Rattle.cif_canon.specs.Differences.{AreDifferences, AreDifferentRecords, AreDifferentTiplocs, AreOnlyRecords, DifferencesParts}
-use Rattle.cif_canon.specs.Differences.{IsOnlyIn, of_side}
-use Rattle.cif_canon.specs.declared.{comparison.Comparison.Comparison, listed_differences.Side.Side}
-use Rattle.cif_canon.specs.declared.{listed_differences.Side.TheVariants.Left, listed_differences.Side.TheVariants.Right}
-use Rattle.cif_canon.specs.declared.{listed_differences.Sided.Sided}
 use Rattle.cif_canon.specs.declared.comparison.Comparison.TheVariants.{Same, Tiploc as DifferentTiploc, Association, Train}
 use Rattle.cif_extract.specs.ExtractParts.{ExtractParts}
-use Rattle.cif_records.specs.AssocKey.{key_cmp}
-use Rattle.cif_records.specs.declared.tiploc.Tiploc.{Tiploc}
+use Rattle.cif_records.specs.{AssocKey.key_cmp, declared.tiploc.Tiploc.Tiploc}
 use Rattle.cif_weeks.specs.{Permanent.Permanent, Window.Window}
 
 -- ---- of one kind

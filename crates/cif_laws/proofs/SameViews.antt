@@ -10,8 +10,7 @@ use Rattle.cif_canon.specs.{Meaning.SameMeaning}
 use Rattle.cif_canon.specs.Views.{AreRunning, DayTexts, IsDayListed, IsTrainListed, TrainTexts}
 use Rattle.cif_extract.specs.{ExtractParts.ExtractParts, Texts.extract_text}
 use Rattle.cif_records.specs.AssocKey.{key_cmp}
-use Rattle.cif_weeks.specs.{Canonical.AreCanonical, Permanent.permanent_entries, Window.IsWithin, Window.Window}
-use Rattle.cif_weeks.specs.declared.form.Form.{Form}
+use Rattle.cif_weeks.specs.{Canonical.AreCanonical, Permanent.permanent_entries, Window.IsWithin, Window.Window, declared.form.Form.Form}
 
 module _ {K B : Type 0} (cmp : K → K → Ordering) (xs ys : List (K × Terms B)) (first last d : ℕ) (from : first ≤ d) (upto : d ≤ last)
     (same : EntriesSayTheSame xs ys first last) where

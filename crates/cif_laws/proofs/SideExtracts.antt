@@ -8,21 +8,17 @@ use Rattle.cif_calendar.specs.{Keys.of_key, Runs.BodyRuns, Terms.Terms}
 use Rattle.cif_canon.proofs.MadeExtract.{IsDated, association_of, associations_of, schedule_of, schedules_of}
 use Rattle.cif_canon.proofs.MadeFits.{HasTerms, have-terms, permanent-association, permanent-basic}
 use Rattle.cif_canon.specs.{Asked.header_window, Differences.AreOnlyRecords}
-use Rattle.cif_columns.specs.Field.{AllFit, plain_line}
-use Rattle.cif_columns.specs.declared.stp.Stp.TheVariants.{P}
+use Rattle.cif_columns.specs.{Field.AllFit, Field.plain_line, declared.stp.Stp.TheVariants.P}
 use Rattle.cif_extract.specs.Body.{BodyLines, IsBody, detail_of}
-use Rattle.cif_extract.specs.ExtractParts.{ExtractParts}
+use Rattle.cif_extract.specs.{ExtractParts.ExtractParts, declared.extract.Schedule.Schedule}
 use Rattle.cif_extract.specs.Texts.{FitsColumns, ScheduleFits, line_of_association, line_of_tiploc, plain_lines_of, schedule_lines}
-use Rattle.cif_extract.specs.declared.extract.Schedule.{Schedule}
 use Rattle.cif_feed.proofs.ListSteps.{Contains-from_map}
 use Rattle.cif_records.proofs.Headers as headers
 use Rattle.cif_records.specs.{AssocKey.key_cmp, Association.association_rows, Association.association_table, Basic.basic_rows}
-use Rattle.cif_records.specs.{Tiploc.tiploc_table}
-use Rattle.cif_records.specs.declared.{association.AssocBody.AssocBody, association.AssocKey.AssocKey, association.Association.Association}
-use Rattle.cif_records.specs.declared.{tiploc.Tiploc.Tiploc}
+use Rattle.cif_records.specs.{Tiploc.tiploc_table, declared.association.AssocBody.AssocBody, declared.association.AssocKey.AssocKey}
+use Rattle.cif_records.specs.{declared.association.Association.Association, declared.tiploc.Tiploc.Tiploc}
 use Rattle.cif_weeks.proofs.{AlignedDays.tight, PermanentEntries.canonical-dated}
-use Rattle.cif_weeks.specs.Permanent.{Permanent}
-use Rattle.cif_weeks.specs.declared.form.Form.TheVariants.{Two}
+use Rattle.cif_weeks.specs.{Permanent.Permanent, declared.form.Form.TheVariants.Two}
 
 -- the plain lines of a location, of a permanent association and of a permanent schedule
 abbrev pub tiploc_lines : Tiploc → List (List ℕ)

@@ -16,8 +16,7 @@ use Rattle.cif_columns.specs.{Contents.lines_text, Field.plain_line, Line.IsLine
 use Rattle.cif_extract.proofs.{OneExtract.same_values, PlainTexts.text-lines, PlainTexts.text-spells, SpelledBytes.one_spelled}
 use Rattle.cif_extract.specs.{ExtractParts.ExtractParts, SpellsExtract.BytesSpell}
 use Rattle.cif_extract.specs.Texts.{FitsColumns, extract_lines, extract_text, line_of_association, plain_lines_of}
-use Rattle.cif_records.specs.{AssocKey.key_cmp, Header.header_table, Trailer.trailer_table}
-use Rattle.cif_records.specs.declared.tiploc.Tiploc.{Tiploc}
+use Rattle.cif_records.specs.{AssocKey.key_cmp, Header.header_table, Trailer.trailer_table, declared.tiploc.Tiploc.Tiploc}
 use Rattle.cif_weeks.specs.Permanent.{Permanent, permanent_entries, terms_of}
 use Rattle.cif_weeks.specs.{WhatRuns.HasBody, Window.IsWithin, Window.Window}
 use Rattle.cif_laws.proofs.MarkedLines.{All-back, All-front, IsMarkedWide, IsWide, one-list, sided_lines, text-of, unmarked}

@@ -1,16 +1,13 @@
 -- How two feeds compare, and in what they differ.
 use Rattle.std.specs.Prelude.{◌≡◌, ◌≢◌, ◌↔◌, ◌≤◌, ◌<◌, ℕ, List, Option, Some, Contains, AllPairs}
-use Rattle.std.specs.{Cmp.Lexicographic.slice_cmp, Ordering.nat_cmp}
-use Rattle.std.specs.declared.{cmp.Ordering.Ordering, cmp.Ordering.TheVariants.Less}
+use Rattle.std.specs.{Cmp.Lexicographic.slice_cmp, Ordering.nat_cmp, declared.cmp.Ordering.Ordering, declared.cmp.Ordering.TheVariants.Less}
 use Rattle.cif_calendar.specs.Keys.{of_key}
-use Rattle.cif_canon.specs.Comparison.{IsFirstTiploc}
+use Rattle.cif_canon.specs.{Comparison.IsFirstTiploc, declared.comparison.Comparison.Comparison, declared.listed_differences.Side.Side}
+use Rattle.cif_canon.specs.{declared.listed_differences.Side.TheVariants.Left, declared.listed_differences.Side.TheVariants.Right}
+use Rattle.cif_canon.specs.{declared.listed_differences.Sided.Sided}
 use Rattle.cif_canon.specs.Differences.{AreDifferentTiplocs, ComesBefore, DifferencesParts, of_side}
-use Rattle.cif_canon.specs.declared.{comparison.Comparison.Comparison, listed_differences.Side.Side}
-use Rattle.cif_canon.specs.declared.{listed_differences.Side.TheVariants.Left, listed_differences.Side.TheVariants.Right}
-use Rattle.cif_canon.specs.declared.{listed_differences.Sided.Sided}
 use Rattle.cif_canon.specs.declared.comparison.Comparison.TheVariants.{Same, Tiploc as DifferentTiploc, Association, Train}
-use Rattle.cif_records.specs.AssocKey.{key_cmp}
-use Rattle.cif_records.specs.declared.tiploc.Tiploc.{Tiploc}
+use Rattle.cif_records.specs.{AssocKey.key_cmp, declared.tiploc.Tiploc.Tiploc}
 use Rattle.cif_weeks.specs.{Canonical.AreCanonical, Permanent.Permanent, WhatRuns.HasBody, Window.IsWithin, Window.Window}
 use Rattle.cif_weeks.specs.declared.form.Form.TheVariants.{Two}
 use Rattle.cif_laws.specs.Feeds.{SayTheSame, FeedsAgree}

@@ -1,16 +1,13 @@
 -- When two feeds say the same, when an extract says what a feed says, and which feeds are accepted once they are prepared.
 use Rattle.std.specs.Prelude.{◌≡◌, ◌↔◌, ◌≤◌, ℕ, List, Option, Contains, false, length}
 use Rattle.cif_calendar.specs.{Clash.IsClear, Entries.association_entries, Entries.schedule_entries, Keys.of_key, Runs.Runs}
-use Rattle.cif_canon.specs.Asked.{AskedDatesAreWithin, window_asked}
-use Rattle.cif_canon.specs.declared.asked.Asked.{Asked}
+use Rattle.cif_canon.specs.{Asked.AskedDatesAreWithin, Asked.window_asked, declared.asked.Asked.Asked}
 use Rattle.cif_columns.specs.Contents.{contents_of}
 use Rattle.cif_extract.specs.{Body.BodyLines, ExtractParts.ExtractParts}
 use Rattle.cif_feed.specs.{Published.CountOn, Published.PublishedTerms, PublishedParts.published_associations}
-use Rattle.cif_feed.specs.{PublishedParts.published_schedules}
-use Rattle.cif_feed.specs.declared.holidays.Holidays.{Holidays}
-use Rattle.cif_records.specs.HeaderColumns.{with_window}
-use Rattle.cif_records.specs.declared.{association.AssocBody.AssocBody, association.AssocKey.AssocKey, header.Header.Header}
-use Rattle.cif_records.specs.declared.{tiploc.Tiploc.Tiploc}
+use Rattle.cif_feed.specs.{PublishedParts.published_schedules, declared.holidays.Holidays.Holidays}
+use Rattle.cif_records.specs.{HeaderColumns.with_window, declared.association.AssocBody.AssocBody, declared.association.AssocKey.AssocKey}
+use Rattle.cif_records.specs.{declared.header.Header.Header, declared.tiploc.Tiploc.Tiploc}
 use Rattle.cif_weeks.specs.Window.{IsWithin, Window}
 use Rattle.cif_laws.specs.PublishedFeed.{AssociationRuns, PublishedFeed, TrainRuns}
 

@@ -3,9 +3,8 @@ use Rattle.cif_records.proofs.Names.{AllStandIn, Basic, Bool, Detail, FieldValue
 use Rattle.cif_records.proofs.Names.{basic_back, basic_front, basic_front_by, basic_refusal, codes, date, days_of-stands, detail_in}
 use Rattle.cif_records.proofs.Names.{detail_rows, exactly, false, has_body, is_some, one_date_value, one_exactly, one_indicator}
 use Rattle.cif_records.proofs.Names.{one_weekdays, props, refl, stands-back, stands-front, stp_in-letter, sym, true, weekdays, ℕ, ◌++◌, ◌∙◌}
-use Rattle.cif_records.proofs.Names.{◌≡◌, ◌≤◌}
+use Rattle.cif_records.proofs.{Details.detail_stands, Details.one_detail, Judging.dates_fine, Names.◌≡◌, Names.◌≤◌}
 use mathlib.Core.HLevel.{Σ_prop_path}
-use Rattle.cif_records.proofs.{Details.detail_stands, Details.one_detail, Judging.dates_fine}
 
 same_detail : (line : List ℕ) (a b : Option Detail) → is_some a ≡ is_some b → AllStandIn line (detail_rows a) →
     AllStandIn line (detail_rows b) → a ≡ b

@@ -1,6 +1,5 @@
 -- The order of the keys of associations.
-use Rattle.std.specs.{Cmp.Lexicographic.slice_cmp, Ordering.nat_cmp, Ordering.ordering_then}
-use Rattle.std.specs.declared.cmp.Ordering.{Ordering}
+use Rattle.std.specs.{Cmp.Lexicographic.slice_cmp, Ordering.nat_cmp, Ordering.ordering_then, declared.cmp.Ordering.Ordering}
 use Rattle.cif_columns.specs.{Field.Fits, Field.text, Text.left_justified}
 use Rattle.cif_records.specs.declared.association.AssocKey.{AssocKey}
 

@@ -3,9 +3,8 @@ use Rattle.std.specs.Prelude.{◌≡◌, ℕ, Bool, List, [], ◌∷◌, ◌++�
 use Rattle.cif_columns.specs.Field.{AllStandIn, FieldValue, Row, row, columns, exactly, date, weekdays, indicator, spare}
 use Rattle.cif_columns.specs.declared.{refusal.Refusal.Refusal, stp.Stp.Stp}
 use Rattle.cif_records.specs.Checks.{bank_holiday_refusal, dates_refusal, days_refusal, first_of, identity_refusal, letter_refusal}
-use Rattle.cif_records.specs.Checks.{transaction_refusal}
-use Rattle.cif_records.specs.Detail.{detail_rows}
-use Rattle.cif_records.specs.declared.{basic.Basic.Basic, basic.BasicTerms.BasicTerms, detail.Detail.Detail}
+use Rattle.cif_records.specs.{Checks.transaction_refusal, Detail.detail_rows, declared.basic.Basic.Basic}
+use Rattle.cif_records.specs.{declared.basic.BasicTerms.BasicTerms, declared.detail.Detail.Detail}
 
 -- columns 1 to 29, where its transaction, its last date, its days and column 29 stand as these values
 abbrev pub basic_front_by : List ℕ → List ℕ → ℕ → FieldValue → FieldValue → FieldValue → List Row

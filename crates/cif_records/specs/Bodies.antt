@@ -1,7 +1,6 @@
 -- Which records have a body, and its columns.
 use Rattle.std.specs.Prelude.{Bool, true, false, Option, None, Some}
-use Rattle.cif_columns.specs.Field.{FieldValue, spare}
-use Rattle.cif_columns.specs.declared.stp.Stp.{Stp}
+use Rattle.cif_columns.specs.{Field.FieldValue, Field.spare, declared.stp.Stp.Stp}
 use Rattle.cif_columns.specs.declared.stp.Stp.TheVariants.{P, N, O, C}
 
 -- all but the cancellations

@@ -1,10 +1,8 @@
 -- CR: a change of a train on the way of a journey, its columns, and the reasons to refuse one.
 use Rattle.std.specs.Prelude.{ℕ, List, [], ◌∷◌, codes, Option}
 use Rattle.cif_columns.specs.Field.{Row, row, AllStandIn, columns, exactly, text, spare}
-use Rattle.cif_columns.specs.Text.{text_of}
-use Rattle.cif_columns.specs.declared.refusal.Refusal.{Refusal}
-use Rattle.cif_records.specs.Checks.{first_of, identity_refusal}
-use Rattle.cif_records.specs.declared.change.Change.{Change}
+use Rattle.cif_columns.specs.{Text.text_of, declared.refusal.Refusal.Refusal}
+use Rattle.cif_records.specs.{Checks.first_of, Checks.identity_refusal, declared.change.Change.Change}
 
 -- the columns of a change
 abbrev pub change_table : Change → List Row

@@ -3,10 +3,9 @@ use Rattle.std.specs.Prelude.{Bool, Err, List, None, Ok, Option, Result, Some, [
 use Rattle.std.specs.Prelude.{true, ℕ, ◌∷◌, ◌≡◌}
 use Rattle.std.specs.{Option.option_or, Str.bytes_eq}
 use Rattle.cif_columns.specs.{Day.ddmmyy_in, Day.yymmdd_in, DaysRun.days_of, Field.columns, PublicTime.public_time_in, Stp.stp_in}
-use Rattle.cif_columns.specs.{WorkTime.work_time_in}
-use Rattle.cif_columns.specs.declared.refusal.Refusal.{Refusal}
+use Rattle.cif_columns.specs.{WorkTime.work_time_in, declared.refusal.Refusal.Refusal, declared.refusal.Refusal.TheVariants.OpenEnd}
+use Rattle.cif_columns.specs.{declared.refusal.Refusal.TheVariants.UnknownRecord}
 use Rattle.cif_columns.specs.declared.refusal.Refusal.TheVariants.{BadDate, BadDays, BadStp, BadTime, BankHoliday, DatesReversed, NotFull}
-use Rattle.cif_columns.specs.declared.refusal.Refusal.TheVariants.{OpenEnd, UnknownRecord}
 
 -- the reason, where the test fails
 abbrev pub unless : Bool → Refusal → Option Refusal

@@ -2,8 +2,7 @@
 use Rattle.std.specs.Prelude.{ℕ, List, [], ◌∷◌, ◌++◌, Option, Some, replicate}
 use Rattle.cif_columns.specs.Field.{Row, row, columns, text, spare}
 use Rattle.cif_columns.specs.Text.{text_of}
-use Rattle.cif_records.specs.Bodies.{of_body}
-use Rattle.cif_records.specs.declared.detail.Detail.{Detail}
+use Rattle.cif_records.specs.{Bodies.of_body, declared.detail.Detail.Detail}
 
 -- columns 30 to 78 of a basic schedule, which are spare where there is no detail
 abbrev pub detail_rows : Option Detail → List Row

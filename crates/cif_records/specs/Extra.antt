@@ -1,10 +1,8 @@
 -- BX: further details of a schedule, their columns, and the reasons to refuse them.
 use Rattle.std.specs.Prelude.{ℕ, List, [], ◌∷◌, codes, Option}
 use Rattle.cif_columns.specs.Field.{Row, row, AllStandIn, columns, exactly, text, spare}
-use Rattle.cif_columns.specs.Text.{text_of}
-use Rattle.cif_columns.specs.declared.refusal.Refusal.{Refusal}
-use Rattle.cif_records.specs.Checks.{first_of, identity_refusal}
-use Rattle.cif_records.specs.declared.extra.Extra.{Extra}
+use Rattle.cif_columns.specs.{Text.text_of, declared.refusal.Refusal.Refusal}
+use Rattle.cif_records.specs.{Checks.first_of, Checks.identity_refusal, declared.extra.Extra.Extra}
 
 -- the columns of further details
 abbrev pub extra_table : Extra → List Row

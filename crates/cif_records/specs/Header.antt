@@ -1,12 +1,10 @@
 -- HD: the header of an extract, its columns, and the reasons to refuse one.
 use Rattle.std.specs.Prelude.{ℕ, List, [], ◌∷◌, Option, codes}
-use Rattle.cif_columns.specs.{Day.ddmmyy_in, DayDigits.ddmmyy_of}
+use Rattle.cif_columns.specs.{Day.ddmmyy_in, DayDigits.ddmmyy_of, declared.refusal.Refusal.Refusal}
+use Rattle.cif_columns.specs.{declared.refusal.Refusal.TheVariants.DatesReversed, declared.refusal.Refusal.TheVariants.NotFull}
 use Rattle.cif_columns.specs.Field.{AllStandIn, Row, row, columns, exactly, spare}
-use Rattle.cif_columns.specs.declared.{refusal.Refusal.Refusal, refusal.Refusal.TheVariants.DatesReversed}
-use Rattle.cif_columns.specs.declared.{refusal.Refusal.TheVariants.NotFull}
 use Rattle.cif_records.specs.Checks.{are, are_in_order, first_of, header_date_refusal, identity_refusal, unless}
-use Rattle.cif_records.specs.HeaderColumns.{kept}
-use Rattle.cif_records.specs.declared.header.Header.{Header}
+use Rattle.cif_records.specs.{HeaderColumns.kept, declared.header.Header.Header}
 
 -- the columns of this header, which keeps columns 3 to 60 as they stand, but for the update indicator, which is this one
 abbrev pub header_rows_by : List ℕ → Header → List Row

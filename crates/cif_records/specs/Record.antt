@@ -1,18 +1,16 @@
 -- Records of any kind: their columns, when a line spells one, its plain line, and the first reason to refuse a line as one.
 use Rattle.std.specs.Prelude.{◌≡◌, ℕ, List, Option, Some, None}
 use Rattle.cif_columns.specs.Field.{AllStandIn, Row, plain_line}
-use Rattle.cif_columns.specs.Line.{IsLine}
-use Rattle.cif_columns.specs.declared.{refusal.Refusal.Refusal, refusal.Refusal.TheVariants.NotFull}
-use Rattle.cif_columns.specs.declared.{refusal.Refusal.TheVariants.UnknownRecord}
+use Rattle.cif_columns.specs.{Line.IsLine, declared.refusal.Refusal.Refusal, declared.refusal.Refusal.TheVariants.NotFull}
+use Rattle.cif_columns.specs.{declared.refusal.Refusal.TheVariants.UnknownRecord}
 use Rattle.cif_records.specs.{Association.association_refusal, Association.association_table, Basic.basic_refusal, Basic.basic_table}
 use Rattle.cif_records.specs.{Change.change_refusal, Change.change_table, Extra.extra_refusal, Extra.extra_table, Header.header_refusal}
 use Rattle.cif_records.specs.{Header.header_table, Kind.kind_in, Origin.origin_refusal, Origin.origin_table, Stop.stop_refusal}
 use Rattle.cif_records.specs.{Stop.stop_table, Terminus.terminus_refusal, Terminus.terminus_table, Tiploc.tiploc_refusal}
-use Rattle.cif_records.specs.{Tiploc.tiploc_table, Trailer.trailer_refusal, Trailer.trailer_table}
-use Rattle.cif_records.specs.declared.{record.Kind.Kind, record.Record.Record}
+use Rattle.cif_records.specs.{Tiploc.tiploc_table, Trailer.trailer_refusal, Trailer.trailer_table, declared.record.Kind.Kind}
+use Rattle.cif_records.specs.{declared.record.Record.Record, declared.record.Record.TheVariants.Trailer}
 use Rattle.cif_records.specs.declared.record.Kind.TheVariants.{Hd, Ti, Ta, Td, Aa, Bs, Bx, Lo, Li, Cr, Lt, Zz}
 use Rattle.cif_records.specs.declared.record.Record.TheVariants.{Association, Basic, Change, Extra, Header, Origin, Stop, Terminus, Tiploc}
-use Rattle.cif_records.specs.declared.record.Record.TheVariants.{Trailer}
 
 -- the columns of this record
 abbrev pub record_table : Record → List Row

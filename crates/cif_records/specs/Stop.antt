@@ -1,8 +1,7 @@
 -- LI: a location on the way of a journey, its columns, and the reasons to refuse one.
 use Rattle.std.specs.Prelude.{ℕ, List, [], ◌∷◌, codes, Option}
-use Rattle.cif_columns.specs.{Activities.codes_in, Text.text_of}
+use Rattle.cif_columns.specs.{Activities.codes_in, Text.text_of, declared.refusal.Refusal.Refusal}
 use Rattle.cif_columns.specs.Field.{Row, row, AllStandIn, columns, exactly, text, activity_codes, working_time, public_time, spare}
-use Rattle.cif_columns.specs.declared.refusal.Refusal.{Refusal}
 use Rattle.cif_records.specs.Checks.{first_of, identity_refusal, public_time_refusal, work_time_refusal}
 use Rattle.cif_records.specs.declared.stop.Stop.{Stop}
 

@@ -2,8 +2,7 @@
 use Rattle.std.specs.Prelude.{ℕ, List, [], ◌∷◌, Option, codes}
 use Rattle.cif_columns.specs.Field.{AllStandIn, Row, row, exactly, spare}
 use Rattle.cif_columns.specs.declared.refusal.Refusal.{Refusal}
-use Rattle.cif_records.specs.Checks.{first_of, identity_refusal}
-use Rattle.cif_records.specs.declared.tiploc.Tiploc.{Tiploc}
+use Rattle.cif_records.specs.{Checks.first_of, Checks.identity_refusal, declared.tiploc.Tiploc.Tiploc}
 
 -- the columns of a location
 abbrev pub tiploc_table : Tiploc → List Row

@@ -19,9 +19,8 @@ pub use Rattle.cif_canon.proofs.Names.{IsCanonOfInput, IsCompareFault, IsNormali
 pub use Rattle.cif_canon.proofs.Names.{IsResultOfBoth, SpellsNarrowed, Write, at-fault, err_from_is_err_and, hands, hands-either, is_read}
 pub use Rattle.cif_canon.proofs.Names.{lines_of, reading_canon, reading_extract, reading_narrowed}
 pub use Rattle.cif_canon.specs.{Comparison.AreCompared, Comparison.comparison_line, Counts.counts_line, Fault.IsOfCheck}
-pub use Rattle.cif_canon.specs.{Fault.IsOfNormalise, Views.IsDayFault, Views.IsTrainFault}
+pub use Rattle.cif_canon.specs.{Fault.IsOfNormalise, Views.IsDayFault, Views.IsTrainFault, declared.asked.Asked.Asked}
 pub use Rattle.cif_canon.proofs.Normalising.{canon-blamed, canon-fault, is-normalised, narrowed-fault, of-canon}
-pub use Rattle.cif_canon.specs.declared.asked.Asked.{Asked}
 pub use Rattle.cif_views.proofs.Names.{AreAllClashes, ExtractLines, Format, IsExplanation, IsWeekCalendar, at_drop_all, clashes_text}
 pub use Rattle.cif_views.proofs.Names.{table_text}
 pub use Rattle.cif_views.specs.WeekCalendar.{IsWeekCalendarFault}

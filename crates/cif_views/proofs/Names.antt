@@ -56,24 +56,25 @@ pub use Rattle.cif_canon.proofs.Names.{same_key-cmp, same_members, schedule_entr
 pub use Rattle.cif_canon.proofs.Names.{slice_get-get_or, slice_get_within, spelled-fits, take_more, terms_at, terms_of, texts_ties}
 pub use Rattle.cif_canon.proofs.Names.{then_total, tiploc_table, trailer_table, train_fields, weekday_of, width, with_first}
 pub use Rattle.cif_canon.proofs.ViewLines.{both-after, explained-groups, joined-rows, printable-date, row-behind, spaces, with_first-line}
-pub use Rattle.cif_canon.specs.Fields.{in_table, trimmed}
-pub use Rattle.cif_canon.specs.{Lines.ExtractLines, Rows.schedule_row, Rows.train_row}
+pub use Rattle.cif_canon.specs.{Fields.in_table, Fields.trimmed, Lines.ExtractLines, Rows.schedule_row, Rows.train_row}
+pub use Rattle.cif_canon.specs.{declared.listed_differences.Side.Side, declared.listed_differences.Side.TheVariants.Left}
+pub use Rattle.cif_canon.specs.{declared.listed_differences.Side.TheVariants.Right, declared.listed_differences.Sided.Sided}
+pub use Rattle.cif_canon.specs.{declared.rows.Format.Format, declared.rows.Format.TheVariants.Text, declared.rows.Format.TheVariants.Tsv}
+pub use Rattle.cif_canon.specs.{declared.rows.Shape.TheVariants.Trimmed, declared.rows.Shape.TheVariants.Whole}
 pub use Rattle.cif_canon.specs.Pairs.{association_lines, listed_as, parts_of, schedule_lines, tiploc_lines}
-pub use Rattle.cif_canon.specs.declared.{listed_differences.Side.Side, listed_differences.Side.TheVariants.Left}
-pub use Rattle.cif_canon.specs.declared.{listed_differences.Side.TheVariants.Right, listed_differences.Sided.Sided, rows.Format.Format}
-pub use Rattle.cif_canon.specs.declared.{rows.Format.TheVariants.Text, rows.Format.TheVariants.Tsv, rows.Shape.TheVariants.Trimmed}
-pub use Rattle.cif_canon.specs.declared.{rows.Shape.TheVariants.Whole}
 pub use Rattle.cif_views.specs.Calls.{call_text, calls_text, origin_fields, terminus_fields}
-pub use Rattle.cif_views.specs.{Clashes.clash_line, Clashes.clashes_text, Steps.WeekCalendar.state_in}
+pub use Rattle.cif_views.specs.{Clashes.clash_line, Clashes.clashes_text, DifferenceTable.tiploc_row, DifferenceTable.without_extra}
+pub use Rattle.cif_views.specs.{Explanation.terms_fields, Steps.WeekCalendar.state_in, declared.columns.FieldPlace.FieldPlace}
+pub use Rattle.cif_views.specs.{declared.columns.JourneyKind.JourneyKind, declared.marks.Mark.Mark}
+pub use Rattle.cif_views.specs.{declared.public_calls.CallTimes.CallTimes, declared.public_calls.Journey.Journey}
+pub use Rattle.cif_views.specs.{declared.public_calls.Riders.Riders, declared.public_calls.Shown.Shown, declared.tables.Table.Table}
 unfoldable pub use Rattle.cif_views.specs.{DifferenceTable.difference_table, Explanation.explained_association_line}
 unfoldable pub use Rattle.cif_views.specs.{Explanation.explained_train_line, Steps.DifferenceRows.field_row, TableText.table_text}
 pub use Rattle.cif_views.specs.DifferenceTable.{association_differences, association_head, call_count, change_of, changed, difference_names}
 pub use Rattle.cif_views.specs.DifferenceTable.{differing_row, differing_rows, in_journey, in_record, journey_differences, own_fields}
 pub use Rattle.cif_views.specs.DifferenceTable.{place_columns, place_rows, schedule_differences, schedule_head, single_row, tiploc_head}
-pub use Rattle.cif_views.specs.DifferenceTable.{tiploc_row, without_extra}
 pub use Rattle.cif_views.specs.Explanation.{AreExplained, Explained, HasWinningMark, IsAssociationOf, IsExplanation, IsMarked, IsTrain}
 pub use Rattle.cif_views.specs.Explanation.{SomeApplies, explanation_heading, mark_columns, said_of_association, said_of_train}
-pub use Rattle.cif_views.specs.Explanation.{terms_fields}
 pub use Rattle.cif_views.specs.Listing.{call_names_if, date_field, if_table, journey_names, lines_of_row, no_call, with_calls}
 pub use Rattle.cif_views.specs.Moments.{IsBy, IsInDayFrom, in_day_from, midnight, time_text, two_digits_or_more}
 pub use Rattle.cif_views.specs.PublicCalls.{AreMoments, ArePublicCalls, AreShown, IsBehind, PublicCall, TimedCall, advertised, is_public}
@@ -99,8 +100,5 @@ pub use Rattle.cif_views.specs.Tables.{kind_of_line, names, names_line, number, 
 pub use Rattle.cif_views.specs.Tables.{own_change_fields, row_fields, row_line, schedule_fields, tiploc_fields, type_fields, yymmdd_from}
 pub use Rattle.cif_views.specs.WeekCalendar.{IsRunningLetter, IsShown, IsWeekCalendar, SaysWhatRuns, calendar_text, cell, character}
 pub use Rattle.cif_views.specs.WeekCalendar.{monday_columns, space, week_line, weeks_between}
-pub use Rattle.cif_views.specs.declared.{columns.FieldPlace.FieldPlace, columns.JourneyKind.JourneyKind, marks.Mark.Mark}
-pub use Rattle.cif_views.specs.declared.{public_calls.CallTimes.CallTimes, public_calls.Journey.Journey, public_calls.Riders.Riders}
-pub use Rattle.cif_views.specs.declared.{public_calls.Shown.Shown, tables.Table.Table}
 pub use Rattle.cif_views.specs.declared.columns.JourneyKind.TheVariants.{Change, Other, Stop}
 pub use Rattle.cif_views.specs.declared.tables.Table.TheVariants.{Associations, Calls, Changes, Public, Schedules, Tiplocs}

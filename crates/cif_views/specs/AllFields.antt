@@ -7,17 +7,14 @@ use Rattle.cif_records.specs.declared.{association.AssocBody.AssocBody, associat
 use Rattle.cif_records.specs.declared.{terminus.Terminus.Terminus}
 use Rattle.cif_weeks.specs.Permanent.{Permanent}
 use Rattle.cif_canon.specs.Fields.{Field, nothing, with_first}
-use Rattle.cif_canon.specs.Rows.{schedule_row, train_row}
-use Rattle.cif_canon.specs.declared.rows.Format.TheVariants.{Tsv}
+use Rattle.cif_canon.specs.{Rows.schedule_row, Rows.train_row, declared.rows.Format.TheVariants.Tsv}
 use Rattle.cif_views.specs.Calls.{call_names, origin_fields, stop_fields, terminus_fields}
 use Rattle.cif_views.specs.DifferenceTable.{association_head, difference_names, schedule_head, text, tiploc_head}
 use Rattle.cif_views.specs.Explanation.{Explained, explained_association_fields, explained_train_fields, explanation_names}
 use Rattle.cif_views.specs.Listing.{association_fields_of, date_field, day_names, train_names, uid_field}
-use Rattle.cif_views.specs.PublicCalls.{public_fields}
+use Rattle.cif_views.specs.{PublicCalls.public_fields, Tables.schedule_fields, Tables.tiploc_fields, declared.listing.Listing.Listing}
 use Rattle.cif_views.specs.Tables.{TableFields, association_fields, basic_fields, call_fields, change_fields, detail_fields, extra_fields}
 use Rattle.cif_views.specs.Tables.{header_fields, kind_of_line, location_and_suffix, names, own_call_fields, own_change_fields, row_fields}
-use Rattle.cif_views.specs.Tables.{schedule_fields, tiploc_fields}
-use Rattle.cif_views.specs.declared.listing.Listing.{Listing}
 use Rattle.cif_views.specs.declared.columns.JourneyKind.TheVariants as kind
 
 -- as many fields as names

@@ -5,8 +5,7 @@ use Rattle.cif_columns.specs.{Activities.codes_columns, Text.left_justified}
 use Rattle.cif_extract.specs.Body.{BodyLines, parts_in}
 use Rattle.cif_extract.specs.declared.{call.Call.Call, call.Call.TheVariants.At, call.Call.TheVariants.Turn}
 use Rattle.cif_records.specs.declared.{origin.Origin.Origin, stop.Stop.Stop, terminus.Terminus.Terminus}
-use Rattle.cif_canon.specs.Fields.{Field}
-use Rattle.cif_canon.specs.declared.rows.Shape.TheVariants.{Trimmed}
+use Rattle.cif_canon.specs.{Fields.Field, declared.rows.Shape.TheVariants.Trimmed}
 
 -- the columns of a time, a platform, a path or a line that a record doesn't have
 abbrev pub no_work_time : List ℕ

@@ -2,8 +2,7 @@
 pub use Rattle.cif_calendar.specs.AllClashes.{AreAllClashes}
 use Rattle.std.specs.Prelude.{ℕ, List, ◌++◌, codes}
 use Rattle.std.specs.List.{flat_map}
-use Rattle.cif_extract.specs.Clash.{clash_text}
-use Rattle.cif_extract.specs.declared.fault.Clash.{Clash}
+use Rattle.cif_extract.specs.{Clash.clash_text, declared.fault.Clash.Clash}
 
 -- the line of a clash: what the fault line of a clash says of it, with its line feed
 unfoldable pub clash_line : Clash → List ℕ

@@ -5,19 +5,16 @@ use Rattle.std.specs.declared.{cmp.Ordering.Ordering, cmp.Ordering.TheVariants.L
 use Rattle.cif_calendar.specs.{Applies.Applies, Clash.IsClash, Clash.IsClear, Entries.association_entries, Entries.schedule_entries}
 use Rattle.cif_calendar.specs.{Keys.of_key, Terms.Records, Terms.Terms, Wins.Wins, Wins.precedence}
 use Rattle.cif_columns.specs.{DayDigits.yymmdd_of, DaysRun.days_columns, Stp.letter, Text.left_justified}
-use Rattle.cif_extract.specs.{Body.BodyLines, ExtractParts.ExtractParts}
-use Rattle.cif_extract.specs.declared.fault.Fault.{Fault}
+use Rattle.cif_extract.specs.{Body.BodyLines, ExtractParts.ExtractParts, declared.fault.Fault.Fault}
 use Rattle.cif_extract.specs.declared.fault.Fault.TheVariants.{Memory, OutsideWindow, Write}
 use Rattle.cif_records.specs.{AssocKey.key_cmp, declared.association.AssocBody.AssocBody, declared.association.AssocKey.AssocKey}
 use Rattle.cif_weeks.specs.Window.{IsWithin}
-use Rattle.cif_canon.specs.Asked.{header_window}
+use Rattle.cif_canon.specs.{Asked.header_window, declared.rows.Format.Format}
 use Rattle.cif_canon.specs.Fields.{Field, left_out, line_of, with_first}
 use Rattle.cif_canon.specs.Rows.{association_fields, no_association, no_train, train_fields}
 use Rattle.cif_views.specs.Listing.{association_names, date_field, if_table, journey_names}
-use Rattle.cif_views.specs.Tables.{names_line}
-use Rattle.cif_canon.specs.declared.rows.Format.{Format}
+use Rattle.cif_views.specs.{Tables.names_line, declared.marks.Mark.Mark}
 use Rattle.cif_canon.specs.declared.rows.Shape.TheVariants.{Date, Trimmed, Whole}
-use Rattle.cif_views.specs.declared.marks.Mark.{Mark}
 use Rattle.cif_views.specs.declared.marks.Mark.TheVariants as mark
 
 -- The mark of a record among those of its key: it wins on day d and all winners have its body; or it wins and they haven't; or it

@@ -3,15 +3,13 @@ use Rattle.std.specs.Prelude.{ℕ, List, ◌∷◌, [], ◌++◌, codes, if◌th
 use Rattle.cif_columns.specs.DayDigits.{yymmdd_of}
 use Rattle.cif_extract.specs.{Body.BodyLines, ExtractParts.ExtractParts}
 use Rattle.cif_records.specs.declared.{association.AssocBody.AssocBody, association.AssocKey.AssocKey}
-use Rattle.cif_weeks.specs.Permanent.{Permanent}
-use Rattle.cif_weeks.specs.declared.form.Form.{Form}
+use Rattle.cif_weeks.specs.{Permanent.Permanent, declared.form.Form.Form}
 use Rattle.cif_canon.specs.Fields.{Field, left_out, line_of, with_first}
 use Rattle.cif_canon.specs.Rows.{association_fields, no_train, schedule_row, train_row}
 use Rattle.cif_canon.specs.Views.{DayTexts, IsDayListed, IsTrainListed, TrainTexts}
 use Rattle.cif_canon.specs.declared.{rows.Format.Format, rows.Format.TheVariants.Text, rows.Format.TheVariants.Tsv}
 use Rattle.cif_canon.specs.declared.rows.Shape.TheVariants.{Date, Trimmed, Whole}
-use Rattle.cif_views.specs.{Calls.call_names, Calls.calls_text, Tables.names_line}
-use Rattle.cif_views.specs.declared.listing.Listing.{Listing}
+use Rattle.cif_views.specs.{Calls.call_names, Calls.calls_text, Tables.names_line, declared.listing.Listing.Listing}
 
 -- In a table with calls an association has the twelve fields of a call too, empty.
 abbrev pub no_call : Listing → List Field

@@ -4,8 +4,7 @@ use Rattle.std.specs.Prelude.{◌+◌, ◌-◌, ◌||◌, ◌∷◌, ◌≡◌}
 use Rattle.std.specs.{List.filter, Option.option_and_then, Option.option_or}
 use Rattle.cif_columns.specs.{Activities.codes_in, Activities.has_code, Field.columns, PublicTime.public_seconds, PublicTime.public_time_in}
 use Rattle.cif_columns.specs.{WorkTime.work_seconds, WorkTime.work_time_in}
-use Rattle.cif_canon.specs.{Fields.Field, Lines.ScheduleLines}
-use Rattle.cif_canon.specs.declared.rows.Shape.TheVariants.{Whole}
+use Rattle.cif_canon.specs.{Fields.Field, Lines.ScheduleLines, declared.rows.Shape.TheVariants.Whole}
 use Rattle.cif_views.specs.Moments.{IsNearest, IsNext, midnight, time_text}
 use Rattle.cif_views.specs.Tables.{Numbered, TableFields, calls_of, kind_of_line, number, text_at}
 use Rattle.cif_views.specs.declared.{columns.JourneyKind.JourneyKind, public_calls.CallTimes.CallTimes, public_calls.Riders.Riders}

@@ -2,10 +2,9 @@
 use Rattle.std.specs.Prelude.{ℕ, List, [], ◌++◌}
 use Rattle.std.specs.List.{enumerate_from, flat_map}
 use Rattle.cif_canon.specs.Lines.{ExtractLines, ScheduleLines}
-use Rattle.cif_views.specs.{PublicCalls.public_fields, Steps.PublicCalls.public_calls}
+use Rattle.cif_views.specs.{PublicCalls.public_fields, Steps.PublicCalls.public_calls, declared.tables.Table.Table}
 use Rattle.cif_views.specs.Tables.{association_fields, call_fields, calls_of, change_fields, changes_of, header_fields, heading}
 use Rattle.cif_views.specs.Tables.{numbered_schedule, row_line, schedule_fields, tiploc_fields}
-use Rattle.cif_views.specs.declared.tables.Table.{Table}
 use Rattle.cif_views.specs.declared.tables.Table.TheVariants.{Associations, Calls, Changes, Header, Public, Schedules, Tiplocs}
 
 -- the first line of a table

@@ -1,14 +1,11 @@
 -- Tables of a whole canonical extract: a line of names, and then a line for each row.
 use Rattle.std.specs.Prelude.{Bool, List, Option, Some, [], codes, cond, decimal, false, map, replicate, slice_index_or, true, ℕ, ◌++◌, ◌+◌}
-use Rattle.std.specs.Prelude.{◌∷◌}
-use Rattle.std.specs.List.{filter, join_with_byte}
+use Rattle.std.specs.{List.filter, List.join_with_byte, Prelude.◌∷◌}
 use Rattle.cif_columns.specs.Field.{columns, columns_from}
-use Rattle.cif_records.specs.Kind.{kind_in}
-use Rattle.cif_records.specs.declared.record.Kind.{Kind}
+use Rattle.cif_records.specs.{Kind.kind_in, declared.record.Kind.Kind}
 use Rattle.cif_records.specs.declared.record.Kind.TheVariants.{Bx, Cr, Li, Lo, Lt}
 use Rattle.cif_canon.specs.Fields.{Field, line_of, nothing}
-use Rattle.cif_canon.specs.Lines.{ScheduleLines}
-use Rattle.cif_canon.specs.declared.rows.Format.TheVariants.{Tsv}
+use Rattle.cif_canon.specs.{Lines.ScheduleLines, declared.rows.Format.TheVariants.Tsv}
 use Rattle.cif_canon.specs.declared.rows.Shape.TheVariants.{Date, Trimmed, Whole}
 use Rattle.cif_views.specs.declared.columns.JourneyKind.{JourneyKind}
 use Rattle.cif_views.specs.declared.columns.JourneyKind.TheVariants.{Change, Origin, Other, Stop, Terminus}

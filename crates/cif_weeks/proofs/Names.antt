@@ -26,8 +26,7 @@ pub use Rattle.cif_calendar.proofs.PieceLists.{source_at-piece, tiles-ends, tile
 pub use Rattle.cif_calendar.proofs.Positions.{AreLawful-chosen, at-contains, contains-at}
 pub use Rattle.cif_calendar.proofs.RisingLists.{AllPairs-members, Contains-none, IsOneWay, less_one_way, not_less, same_members}
 pub use Rattle.cif_calendar.proofs.Winning.{terms_at}
-pub use Rattle.cif_calendar.specs.Applies.{IsAmongDates}
-pub use Rattle.cif_calendar.specs.declared.key_calendar.Piece.{Piece}
+pub use Rattle.cif_calendar.specs.{Applies.IsAmongDates, declared.key_calendar.Piece.Piece}
 pub use Rattle.cif_weeks.specs.Aligned.{IsAligned, IsAlignedOne, IsAlignedTwo}
 pub use Rattle.cif_weeks.specs.{Applies.IsWeekOf, HaveForm.HaveForm, Meets.Meets, WhatRuns.SayTheSame, WhatRuns.SayWhatRuns}
 pub use Rattle.cif_weeks.specs.Canonical.{AreCanonical, Precedes, SayTheSameByKey, SayWhatRunsByKey, with_key}

@@ -1,8 +1,7 @@
 -- The records of one key have the form.
 use Rattle.std.specs.Prelude.{◌≡◌, ◌≢◌, ℕ}
-use Rattle.cif_weeks.specs.declared.form.Form.{Form}
 use Rattle.cif_weeks.specs.{Aligned.IsAligned, Applies.Applies, Permanent.Permanent, Permanent.Permanents, Separate.AreSeparate}
-use Rattle.cif_weeks.specs.{Window.Window}
+use Rattle.cif_weeks.specs.{Window.Window, declared.form.Form.Form}
 
 -- On each day at most one of the records applies; each is aligned; each two with one body are separate.
 pub record HaveForm {B : Type 0} (form : Form) (window : Window) (records : Permanents B) : Type 0 where

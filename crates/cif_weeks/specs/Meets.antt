@@ -1,7 +1,6 @@
 -- The canonical records of one key, with what runs.
 use Rattle.std.specs.Prelude.{ℕ, ◌<◌, List, Option, AllPairs, Contains}
-use Rattle.cif_weeks.specs.declared.form.Form.{Form}
-use Rattle.cif_weeks.specs.{HaveForm.HaveForm, Permanent.Permanent, WhatRuns.SayWhatRuns, Window.Window}
+use Rattle.cif_weeks.specs.{HaveForm.HaveForm, Permanent.Permanent, WhatRuns.SayWhatRuns, Window.Window, declared.form.Form.Form}
 
 -- The list rises strictly by first day, its records have the form, and they say what runs.
 pub record Meets {B : Type 0} (form : Form) (window : Window) (body_on : ℕ → Option B) (records : List (Permanent B))

@@ -2,8 +2,7 @@
 use Rattle.std.specs.Prelude.{◌≡◌, ℕ, ◌≤◌, List, Some, IsSome}
 use Rattle.std.specs.List.{AllZip}
 use Rattle.cif_calendar.specs.{Calendar.CalendarParts, Calendar.body_on, Pieces.source_at, Source.body_at, Terms.Terms}
-use Rattle.cif_weeks.specs.declared.{form.Form.Form, form.Run.Run}
-use Rattle.cif_weeks.specs.{Meets.Meets, Permanent.Permanent, Window.Window}
+use Rattle.cif_weeks.specs.{Meets.Meets, Permanent.Permanent, Window.Window, declared.form.Form.Form, declared.form.Run.Run}
 
 -- each source of the calendar is the position of an entry with a body
 pub record AreSources {B : Type 0} (xs : List (Terms B)) (c : CalendarParts) : Type 0 where

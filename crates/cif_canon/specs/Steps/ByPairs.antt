@@ -2,10 +2,8 @@
 use Rattle.std.specs.Prelude.{◌≡◌, ℕ, ◌<◌, List, ◌∷◌, Option, None, Some, drop, length}
 use Rattle.std.specs.declared.cmp.Ordering.{Ordering}
 use Rattle.cif_calendar.specs.Terms.{Terms}
-use Rattle.cif_weeks.specs.Permanent.{Permanent}
-use Rattle.cif_weeks.specs.declared.form.Run.{Run}
-use Rattle.cif_canon.specs.{Pairs.Listed, Pairs.by_pairs, Steps.Sides.sided_records}
-use Rattle.cif_canon.specs.declared.listed_differences.Sided.{Sided}
+use Rattle.cif_weeks.specs.{Permanent.Permanent, declared.form.Run.Run}
+use Rattle.cif_canon.specs.{Pairs.Listed, Pairs.by_pairs, Steps.Sides.sided_records, declared.listed_differences.Sided.Sided}
 
 -- the runs that are left behind a record with or without a partner
 abbrev pub left_behind : {A : Type 0} → Option A → List (Sided Run) → List (Sided Run)

@@ -1,7 +1,6 @@
 -- Extracts that are compared, and days on which two calendars have the same bodies. No public clause cites it.
 use Rattle.std.specs.Prelude.{◌≡◌, ℕ, ◌≤◌, List, Option, Some, IsSome, ⊤}
-use Rattle.cif_calendar.specs.{Pieces.winner_of, Source.body_at, Terms.Terms}
-use Rattle.cif_calendar.specs.declared.key_calendar.Piece.{Piece}
+use Rattle.cif_calendar.specs.{Pieces.winner_of, Source.body_at, Terms.Terms, declared.key_calendar.Piece.Piece}
 use Rattle.cif_extract.specs.ExtractParts.{ExtractParts}
 use Rattle.cif_canon.specs.{Accepted.IsClearExtract, Asked.header_window}
 use Rattle.cif_canon.specs.declared.{comparison.Comparison.Comparison, comparison.Comparison.TheVariants.Same}

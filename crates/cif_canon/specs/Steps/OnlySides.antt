@@ -3,13 +3,11 @@ use Rattle.std.specs.Prelude.{◌≡◌, ◌≢◌, ◌↔◌, ◌⊎◌, ℕ, �
 use Rattle.std.specs.{Cmp.Lexicographic.slice_cmp, List.AllZip, Ordering.nat_cmp}
 use Rattle.std.specs.declared.{cmp.Ordering.Ordering, cmp.Ordering.TheVariants.Greater, cmp.Ordering.TheVariants.Less}
 use Rattle.cif_calendar.specs.{Calendar.CalendarParts, Calendar.body_on, Keys.AreClear, Meaning.EntriesSayTheSame, Pieces.source_at}
-use Rattle.cif_calendar.specs.{Pieces.winner_of, Source.body_at, Terms.Terms}
-use Rattle.cif_calendar.specs.declared.key_calendar.Piece.{Piece}
+use Rattle.cif_calendar.specs.{Pieces.winner_of, Source.body_at, Terms.Terms, declared.key_calendar.Piece.Piece}
 use Rattle.cif_columns.specs.Day.{weekday_of}
 use Rattle.cif_records.specs.declared.tiploc.Tiploc.{Tiploc}
-use Rattle.cif_weeks.specs.{Permanent.Permanent, Window.Window}
+use Rattle.cif_weeks.specs.{Permanent.Permanent, Window.Window, declared.form.Form.TheVariants.Two, declared.form.Run.Run}
 use Rattle.cif_weeks.specs.Runs.{AreSources, IsRunOf as IsCalendarRun, window_of}
-use Rattle.cif_weeks.specs.declared.{form.Form.TheVariants.Two, form.Run.Run}
 use Rattle.cif_canon.specs.{Comparison.IsFirstDifference, Steps.Records.AreRunsOf, Steps.Records.IsRunOf}
 use Rattle.cif_canon.specs.Differences.{AreDifferentRecords, IsOnlyIn, TurnInto, at_side, of_side}
 use Rattle.cif_canon.specs.declared.{differing.Extent.Extent, differing.Extent.TheVariants.AllKeys, listed_differences.Side.Side}

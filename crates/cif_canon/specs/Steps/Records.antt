@@ -1,7 +1,6 @@
 -- The canonical records of all keys, as runs. No public clause cites them.
 use Rattle.std.specs.Prelude.{◌≡◌, ℕ, ◌<◌, List, Some, ⊤, ◌↔◌, AllPairs, Contains, slice_get}
-use Rattle.std.specs.List.{AllZip}
-use Rattle.std.specs.declared.cmp.Ordering.{Ordering}
+use Rattle.std.specs.{List.AllZip, declared.cmp.Ordering.Ordering}
 use Rattle.cif_calendar.specs.{Clash.IsClearFrom, Clash.IsFirstClash, Meaning.EntriesSayTheSame, Runs.BodyRuns, Terms.Terms}
 use Rattle.cif_calendar.specs.Keys.{of_key, AreClear, IsFirstClashOf}
 use Rattle.cif_calendar.specs.declared.key_calendar.CalendarFault.{CalendarFault}

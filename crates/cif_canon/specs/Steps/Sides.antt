@@ -1,8 +1,7 @@
 -- The runs of both sides, and their records. No public clause cites them.
 use Rattle.std.specs.Prelude.{ℕ, List, [], ◌∷◌, Option, None, Some}
 use Rattle.cif_calendar.specs.Terms.{Terms}
-use Rattle.cif_weeks.specs.Permanent.{Permanent}
-use Rattle.cif_weeks.specs.declared.form.Run.{Run}
+use Rattle.cif_weeks.specs.{Permanent.Permanent, declared.form.Run.Run}
 use Rattle.cif_canon.specs.{Differences.at_side, declared.listed_differences.Side.Side, declared.listed_differences.Sided.Sided}
 use Rattle.cif_canon.specs.Steps.Texts.{HasRecord, record_at, run_text}
 

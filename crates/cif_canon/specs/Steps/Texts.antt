@@ -2,14 +2,11 @@
 use Rattle.std.specs.Prelude.{◌≡◌, ℕ, ◌≤◌, List, [], ◌∷◌, ◌++◌, Option, None, Some, map, slice_get}
 use Rattle.std.specs.{List.flat_map, Option.option_and_then, Option.option_map}
 use Rattle.cif_calendar.specs.{Entries.association_entries, Entries.schedule_entries, Terms.Terms}
-use Rattle.cif_columns.specs.{Contents.lines_text, Field.plain_line}
-use Rattle.cif_columns.specs.declared.stp.Stp.TheVariants.{P}
-use Rattle.cif_extract.specs.{Body.BodyLines, ExtractParts.ExtractParts, Texts.schedule_lines}
-use Rattle.cif_extract.specs.declared.extract.Schedule.{Schedule}
+use Rattle.cif_columns.specs.{Contents.lines_text, Field.plain_line, declared.stp.Stp.TheVariants.P}
+use Rattle.cif_extract.specs.{Body.BodyLines, ExtractParts.ExtractParts, Texts.schedule_lines, declared.extract.Schedule.Schedule}
 use Rattle.cif_records.specs.{Association.association_rows, Header.header_table, Tiploc.tiploc_table, Trailer.trailer_table}
 use Rattle.cif_records.specs.declared.{association.AssocBody.AssocBody, association.AssocKey.AssocKey, tiploc.Tiploc.Tiploc}
-use Rattle.cif_weeks.specs.{Permanent.Permanent, Runs.record_of}
-use Rattle.cif_weeks.specs.declared.form.Run.{Run}
+use Rattle.cif_weeks.specs.{Permanent.Permanent, Runs.record_of, declared.form.Run.Run}
 use Rattle.cif_canon.specs.Lines.{ExtractLines, ScheduleLines, association_plain, line_of_tiploc, schedule_plain}
 
 -- the record of a run, with the key and the body of the entry at its source

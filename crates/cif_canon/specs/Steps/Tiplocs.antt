@@ -1,7 +1,6 @@
 -- The locations of a canonical extract. No public clause cites them.
 use Rattle.std.specs.Prelude.{◌≡◌, ◌↔◌, List, AllPairs, Contains}
-use Rattle.std.specs.{Cmp.Lexicographic.slice_cmp, Ordering.nat_cmp}
-use Rattle.std.specs.declared.cmp.Ordering.TheVariants.{Less}
+use Rattle.std.specs.{Cmp.Lexicographic.slice_cmp, Ordering.nat_cmp, declared.cmp.Ordering.TheVariants.Less}
 use Rattle.cif_records.specs.declared.tiploc.Tiploc.{Tiploc}
 
 -- these are the locations, each once, and they rise strictly by their columns

@@ -1,8 +1,7 @@
 -- What a reading has come to, for the contracts of the reader's own steps. Of public functions only those of `Reading` cite it.
 use Rattle.std.specs.Prelude.{Bool, Err, IfSome, List, None, Ok, Option, Result, Some, [], false, is_some, map, refl, true, ℕ, ◌++◌, ◌∷◌}
 use Rattle.std.specs.Prelude.{◌≡◌, ◌≢◌, ◌⊎◌}
-use Rattle.cif_columns.specs.{Field.AllStandIn, Field.plain_line, Line.IsLine}
-use Rattle.cif_columns.specs.declared.refusal.Refusal.{Refusal}
+use Rattle.cif_columns.specs.{Field.AllStandIn, Field.plain_line, Line.IsLine, declared.refusal.Refusal.Refusal}
 use Rattle.cif_extract.specs.Body.{BodyLines, KeepAll, body_tables}
 use Rattle.cif_extract.specs.{BodyParts.extra_records, Call.call_record, ExtractParts.ExtractParts, OrderOfRecords.after_extra}
 use Rattle.cif_extract.specs.{OrderOfRecords.may_stand}

@@ -1,8 +1,7 @@
 -- Where changes stand, for the contracts of the steps of doing them. A map is seen as the value at each key.
 use Rattle.std.specs.Prelude.{Bool, Err, List, None, Ok, Option, Result, Some, [], false, if◌then◌else◌, slice_get, true, unwrap_or, ℕ}
 use Rattle.std.specs.Prelude.{◌&&◌, ◌+◌, ◌==◌, ◌∷◌, ◌≡◌}
-use Rattle.std.specs.{Option.option_or, Ordering.eq_by_cmp}
-use Rattle.std.specs.declared.cmp.Ordering.{Ordering}
+use Rattle.std.specs.{Option.option_or, Ordering.eq_by_cmp, declared.cmp.Ordering.Ordering}
 use Rattle.cif_feed.specs.declared.{changes.RefusedLine.RefusedLine, feed_fault.FeedFault.FeedFault, update.Outcome.Outcome}
 use Rattle.cif_feed.specs.declared.changes.Unfit.TheVariants as unfit
 use Rattle.cif_feed.specs.declared.feed_fault.FeedFault.TheVariants.{NotThere, AlreadyThere, OutOfSequence}

@@ -1,13 +1,10 @@
 -- The clash days of keys, by what stands for the keys.
 use Rattle.std.specs.Prelude.{Contains, List, None, Option, Some, [], if◌then◌else◌, length, map, ℕ, ◌++◌, ◌+◌, ◌<◌, ◌∷◌, ◌≡◌, ◌⊎◌}
-use Rattle.std.specs.{Cmp.Lexicographic.slice_cmp, Ordering.is_eq, Ordering.nat_cmp}
-use Rattle.std.specs.declared.cmp.Ordering.{Ordering}
+use Rattle.std.specs.{Cmp.Lexicographic.slice_cmp, Ordering.is_eq, Ordering.nat_cmp, declared.cmp.Ordering.Ordering}
 use Rattle.cif_calendar.specs.{Entries.association_entries, Entries.schedule_entries, Ranks.IsNumberOf}
-use Rattle.cif_extract.specs.ExtractParts.{ExtractParts}
-use Rattle.cif_extract.specs.declared.fault.Clash.{Clash}
+use Rattle.cif_extract.specs.{ExtractParts.ExtractParts, declared.fault.Clash.Clash}
 use Rattle.cif_extract.specs.declared.fault.Clash.TheVariants as clash
-use Rattle.cif_records.specs.AssocKey.{key_cmp}
-use Rattle.cif_records.specs.declared.association.AssocKey.{AssocKey}
+use Rattle.cif_records.specs.{AssocKey.key_cmp, declared.association.AssocKey.AssocKey}
 use Rattle.cif_feed.specs.Dropped.{AreClashDays, AreKeysWithDays, reported_as}
 use Rattle.cif_feed.specs.{Prepared.ArePrepared, Published.IsHolidayOf, Published.PublishedTerms}
 use Rattle.cif_feed.specs.PublishedParts.{PublishedParts, published_associations, published_schedules}

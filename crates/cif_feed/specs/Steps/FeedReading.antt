@@ -1,14 +1,11 @@
 -- What the reading of a feed has come to, content by content.
 use Rattle.std.specs.Prelude.{◌≡◌, ℕ, ◌+◌, true, false, not, ◌&&◌, List, [], ◌∷◌, ◌++◌, Option, Some, None, Result, Ok, Err}
 use Rattle.std.specs.List.{list_any}
-use Rattle.cif_columns.specs.{Comment.is_comment, Line.IsLine}
-use Rattle.cif_columns.specs.declared.refusal.Refusal.TheVariants.{OutOfOrder}
+use Rattle.cif_columns.specs.{Comment.is_comment, Line.IsLine, declared.refusal.Refusal.TheVariants.OutOfOrder}
 use Rattle.cif_extract.specs.Steps.Reading.{IsTakenAs, Progress, progress_of}
-use Rattle.cif_extract.specs.Taken.{HasTaken, refusal_at}
-use Rattle.cif_extract.specs.declared.{reading.TakeFault.TakeFault, reading.TakeFault.TheVariants.Memory}
-use Rattle.cif_extract.specs.declared.{reading.TakeFault.TheVariants.Refused}
-use Rattle.cif_records.specs.Kind.{kind_in}
-use Rattle.cif_records.specs.declared.record.Kind.{Kind}
+use Rattle.cif_extract.specs.{Taken.HasTaken, Taken.refusal_at, declared.reading.TakeFault.TakeFault}
+use Rattle.cif_extract.specs.{declared.reading.TakeFault.TheVariants.Memory, declared.reading.TakeFault.TheVariants.Refused}
+use Rattle.cif_records.specs.{Kind.kind_in, declared.record.Kind.Kind}
 use Rattle.cif_records.specs.declared.record.Kind.TheVariants.{Hd, Ti, Ta, Td, Aa, Bs}
 use Rattle.cif_feed.specs.{FeedLayouts.feed_layouts, FeedLine.SpellsInFeed, FeedRefusal.line_refusal, Marks.mark_parts, Marks.marks_in}
 use Rattle.cif_feed.specs.{Steps.Marks.mark_of}

@@ -3,9 +3,8 @@ use Rattle.std.specs.Prelude.{Contains, Err, List, Ok, Result, Some, ℕ, ◌≢
 use Rattle.cif_columns.specs.declared.{refusal.Refusal.Refusal, refusal.Refusal.TheVariants.OutOfOrder}
 use Rattle.cif_columns.specs.declared.{refusal.Refusal.TheVariants.TooManyLines}
 use Rattle.cif_extract.specs.{ExtractParts.extract_parts, Layouts.own_layouts, SpellsExtract.SpellExtract, Steps.Reading.progress_of}
-use Rattle.cif_extract.specs.{Taken.HasTaken}
+use Rattle.cif_extract.specs.{Taken.HasTaken, declared.fault.Fault.Fault, declared.fault.Fault.TheVariants.Refused}
 use Rattle.cif_extract.specs.FirstRefusal.{IsRefusedLine, IsTruncated, NoneRefused}
-use Rattle.cif_extract.specs.declared.{fault.Fault.Fault, fault.Fault.TheVariants.Refused}
 use Rattle.cif_feed.specs.{Judged.NoneHasReason, Reasons.ReportReasons, Reasons.reasons_of}
 use Rattle.cif_feed.specs.declared.{judged.Judged.Judged, judged.Judging.Judging, judged.Order.Order}
 use Rattle.cif_feed.specs.declared.judged.Judged.TheVariants as judged

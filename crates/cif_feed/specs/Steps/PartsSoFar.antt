@@ -5,8 +5,7 @@ use Rattle.std.specs.Ordering.{is_le, nat_cmp}
 use Rattle.cif_columns.specs.{Day.weekday_of, DaysRun.RunsOn}
 use Rattle.cif_calendar.specs.Terms.{Terms}
 use Rattle.cif_feed.specs.Parts.{AreParts, HaveDay, IsBefore, IsCut, IsPart, Part}
-use Rattle.cif_feed.specs.{Prepared.part_entry, PreparedRecord.terms_on}
-use Rattle.cif_feed.specs.declared.prepared_record.PreparedRecord.{PreparedRecord}
+use Rattle.cif_feed.specs.{Prepared.part_entry, PreparedRecord.terms_on, declared.prepared_record.PreparedRecord.PreparedRecord}
 
 -- These are the first parts of the record: each of its days before this one is in one of them, or a cut.
 pub record ArePartsBefore {B : Type 0} (Stops : ℕ → Type 0) (r : Terms B) (day : ℕ) (parts : List Part) : Type 0 where

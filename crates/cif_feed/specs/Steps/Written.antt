@@ -7,10 +7,9 @@ use Rattle.cif_extract.specs.declared.extract.Schedule.{Schedule}
 use Rattle.cif_records.specs.{Header.header_table, Trailer.trailer_table}
 use Rattle.cif_records.specs.declared.{association.Association.Association, header.Header.Header, tiploc.Tiploc.Tiploc}
 use Rattle.cif_feed.specs.{PreparedParts.association_on, PreparedParts.schedule_on, PublishedParts.published_association_line}
-use Rattle.cif_feed.specs.{PublishedParts.published_schedule_lines}
-use Rattle.cif_feed.specs.declared.{prepared_record.PreparedRecord.PreparedRecord}
-use Rattle.cif_feed.specs.declared.{published_extract.PublishedAssociation.PublishedAssociation}
-use Rattle.cif_feed.specs.declared.{published_extract.PublishedSchedule.PublishedSchedule}
+use Rattle.cif_feed.specs.{PublishedParts.published_schedule_lines, declared.prepared_record.PreparedRecord.PreparedRecord}
+use Rattle.cif_feed.specs.{declared.published_extract.PublishedAssociation.PublishedAssociation}
+use Rattle.cif_feed.specs.{declared.published_extract.PublishedSchedule.PublishedSchedule}
 
 -- the line of a location, with a line feed
 abbrev pub tiploc_text : Tiploc → List ℕ

@@ -1,13 +1,11 @@
 -- The rows of public calls as the code makes them. No public clause cites them.
 use Rattle.std.specs.Prelude.{ℕ, ◌≤◌, ◌&&◌, ◌||◌, ◌+◌, ◌*◌, ◌-◌, ◌^◌, ◌<◌, IfSome, List, [], ◌∷◌, None, Option, Some}
-use Rattle.cif_canon.specs.Fields.{Field}
-use Rattle.cif_canon.specs.declared.rows.Shape.TheVariants.{Whole}
+use Rattle.cif_canon.specs.{Fields.Field, declared.rows.Shape.TheVariants.Whole}
 use Rattle.cif_views.specs.Moments.{IsBy, day, midnight, time_text}
 use Rattle.cif_views.specs.PublicCalls.{pick_up, platform_in, riders_of, set_down, times_of}
-use Rattle.cif_views.specs.Steps.Columns.{row_behind}
+use Rattle.cif_views.specs.{Steps.Columns.row_behind, declared.public_calls.Journey.Journey, declared.public_calls.Riders.Riders}
+use Rattle.cif_views.specs.{declared.public_calls.Shown.Shown, declared.public_calls.Stay.Stay}
 use Rattle.cif_views.specs.Tables.{kind_of_line, number, text_at}
-use Rattle.cif_views.specs.declared.{public_calls.Journey.Journey, public_calls.Riders.Riders, public_calls.Shown.Shown}
-use Rattle.cif_views.specs.declared.{public_calls.Stay.Stay}
 
 -- the fields of a public call behind the number of its schedule
 abbrev pub behind_schedule : ℕ → List ℕ → Shown → List Field

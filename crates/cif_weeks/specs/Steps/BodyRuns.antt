@@ -1,7 +1,6 @@
 -- Steps to the runs of few records: those of one body, week by week. No public clause cites them.
 use Rattle.std.specs.Prelude.{◌≡◌, ◌≢◌, ℕ, ◌+◌, ◌<◌, ◌≤◌, ◌++◌, List, [], ◌∷◌, AllPairs, Contains, reverse}
-use Rattle.cif_columns.specs.declared.stp.Stp.TheVariants.{C}
-use Rattle.cif_columns.specs.Day.{week_of}
+use Rattle.cif_columns.specs.{Day.week_of, declared.stp.Stp.TheVariants.C}
 use Rattle.cif_weeks.specs.declared.{form.Form.Form, form.Run.Run, span.Span.Span, span.Weeks.Weeks}
 use Rattle.cif_weeks.specs.{Permanent.Permanent, Runs.record_of, Steps.Growing.Breaks, Steps.Growing.IsGrown, Window.IsWithin}
 use Rattle.cif_weeks.specs.{Window.Window}

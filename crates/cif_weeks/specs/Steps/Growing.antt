@@ -1,9 +1,8 @@
 -- Steps to the runs: records that grow week by week. No public clause cites them.
 use Rattle.std.specs.Prelude.{◌≡◌, ◌≢◌, ℕ, ◌+◌, ◌<◌, ◌≤◌, List, Bool, length}
 use Rattle.cif_columns.specs.{Day.week_of, Day.weekday_of, DaysRun.RunsOn}
-use Rattle.cif_weeks.specs.declared.{form.Form.Form, form.Form.TheVariants.One, form.Form.TheVariants.Two}
 use Rattle.cif_weeks.specs.{Permanent.Permanent, Separate.Change, Separate.ExactlyOne, Steps.WeekMasks.IsMask, Window.IsWithin}
-use Rattle.cif_weeks.specs.{Window.Window}
+use Rattle.cif_weeks.specs.{Window.Window, declared.form.Form.Form, declared.form.Form.TheVariants.One, declared.form.Form.TheVariants.Two}
 
 -- form 2: on the days of a week that are in the window, the mask has just the weekdays on which the record's body runs
 pub record FitsWithin (window : Window) (on : ℕ → Type 0) (days : List Bool) (week : ℕ) : Type 0 where

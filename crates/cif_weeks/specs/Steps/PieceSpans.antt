@@ -1,11 +1,8 @@
 -- Steps to the runs of a calendar: the spans of its pieces. No public clause cites them.
 use Rattle.std.specs.Prelude.{Contains, List, None, Option, Some, if◌then◌else◌, length, nat_le, slice_index_or, unwrap_or, ℕ, ◌+◌, ◌<◌}
-use Rattle.std.specs.Prelude.{◌≡◌, ◌≤◌}
-use Rattle.std.specs.List.Sorted.{IsNonDecreasingBy}
-use Rattle.cif_columns.specs.Day.{week_of, weekday_of}
-use Rattle.cif_columns.specs.declared.stp.Stp.TheVariants.{P}
-use Rattle.cif_calendar.specs.{Calendar.CalendarParts, Pieces.source_at, Source.body_at, Terms.Terms}
-use Rattle.cif_calendar.specs.declared.key_calendar.Piece.{Piece}
+use Rattle.std.specs.{List.Sorted.IsNonDecreasingBy, Prelude.◌≡◌, Prelude.◌≤◌}
+use Rattle.cif_columns.specs.{Day.week_of, Day.weekday_of, declared.stp.Stp.TheVariants.P}
+use Rattle.cif_calendar.specs.{Calendar.CalendarParts, Pieces.source_at, Source.body_at, Terms.Terms, declared.key_calendar.Piece.Piece}
 use Rattle.cif_weeks.specs.{Steps.Spans.HasDay, declared.form.Run.Run, declared.span.Span.Span}
 
 -- the source of day n, and none outside the window

@@ -2,8 +2,7 @@
 use Rattle.std.specs.Prelude.{◌≡◌, ℕ, ◌≢◌, ◌⊎◌, ◌+◌, ◌<◌, ◌≤◌, List, Some, Contains, ◌↔◌}
 use Rattle.cif_columns.specs.{Day.week_of, Day.weekday_of, DaysRun.RunsOn, Stp.letter}
 use Rattle.cif_calendar.specs.{Applies.Applies, Source.IsChosen, Source.body_at, Terms.Terms}
-use Rattle.cif_weeks.specs.{Steps.WeekMasks.IsMask, Window.IsWithin, Window.Window}
-use Rattle.cif_weeks.specs.declared.{span.Span.Span, span.Weeks.Weeks}
+use Rattle.cif_weeks.specs.{Steps.WeekMasks.IsMask, Window.IsWithin, Window.Window, declared.span.Span.Span, declared.span.Weeks.Weeks}
 
 -- day n lies in the span's weeks, and its weekday is one of those in its week
 pub record HasDay (s : Span) (n : ℕ) : Type 0 where

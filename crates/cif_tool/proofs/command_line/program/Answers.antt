@@ -1,7 +1,6 @@
 -- The program's settings (`program_made`), and then one subcommand after another (`subcommand_added`).
 use Rattle.cif_tool.proofs.Names.{App, IfOk-weaker, ap, app_of, app_of_fields, at_drop_all, cif, codes, map, subcommands, sym, taken}
-use Rattle.cif_tool.proofs.Names.{with_subcommands, ◌∙◌}
-use Rattle.cif_tool.proofs.CommandBuilt.{program_made, subcommand_added}
+use Rattle.cif_tool.proofs.{CommandBuilt.program_made, CommandBuilt.subcommand_added, Names.with_subcommands, Names.◌∙◌}
 use Rattle.cif_tool.proofs.command_line.program.Goals as goal
 
 pub loop-parts-init : goal.loop-parts-init

@@ -2,8 +2,7 @@
 -- the runs are made (`body-made`).
 use Rattle.cif_weeks.proofs.Names.{Shows, arith, cases_lt, sym, week_of, window_days, ℕ, ⊎_elim, ◌+◌, ◌<◌, ◌∙◌, ◌≤◌}
 use Rattle.cif_weeks.proofs.ActiveSpans.{SameOn, agree-all, disputed-all, left-fewer, left-later, left-same, mask-all, none-after}
-use Rattle.cif_weeks.proofs.ActiveSpans.{none-before}
-use Rattle.cif_weeks.proofs.{BodyRuns.body-idle, BodyRuns.body-made, body_runs.add_body_runs.Goals.Else-min-from}
+use Rattle.cif_weeks.proofs.{ActiveSpans.none-before, BodyRuns.body-idle, BodyRuns.body-made, body_runs.add_body_runs.Goals.Else-min-from}
 use Rattle.cif_weeks.proofs.body_runs.add_body_runs.Goals as goal
 
 pub loop-left-preserved-then-min-from : goal.loop-left-preserved-then-min-from

@@ -1,7 +1,6 @@
 -- In front of the line feed of its text stands the line (`front_of_text`).
 use Rattle.cif_columns.proofs.Names.{ArePrintable, IsLine, [], ap, arith, get_or, length, length-append, length-take, subst, sym, take, ◌∙◌}
-use Rattle.cif_columns.proofs.Names.{◌∷◌, ◌≡◌}
-use Rattle.cif_columns.proofs.{TextsOfLines.front_of_text, lines.LineSlice.first.Goals.After-first_text-text}
+use Rattle.cif_columns.proofs.{Names.◌∷◌, Names.◌≡◌, TextsOfLines.front_of_text, lines.LineSlice.first.Goals.After-first_text-text}
 use Rattle.cif_columns.proofs.lines.LineSlice.first.Goals as goal
 
 line : (c : After-first_text-text) → IsLine (get_or c.args.self.now 0 [])

@@ -1,6 +1,5 @@
 -- Each value was found where its row says. A line spells one location (`one_tiploc`).
-use Rattle.cif_records.proofs.Names.{sym, tiploc_refusal}
-use Rattle.cif_records.proofs.{Judging.only, Rows.◌&◌, Tiplocs.no_refusal, Tiplocs.one_tiploc}
+use Rattle.cif_records.proofs.{Judging.only, Names.sym, Names.tiploc_refusal, Rows.◌&◌, Tiplocs.no_refusal, Tiplocs.one_tiploc}
 use Rattle.cif_records.proofs.tiploc.Tiploc.read.Goals as goal
 
 pub returns-in-Ok-clause-exact : goal.returns-in-Ok-clause-exact
