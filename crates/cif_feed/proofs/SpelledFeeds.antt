@@ -1,7 +1,7 @@
 -- Bytes that spell a published extract, or an update, aren't refused, and spell no other: it is what its lines say.
 use Rattle.cif_feed.proofs.Names.{All, All-filter, All-weaker, AreTriples, Association, AssociationKey, BadTransaction, Bool}
 use Rattle.cif_feed.proofs.Names.{BytesSpellFeed, BytesSpellPublished, BytesSpellUpdate, Err, Extract, ExtractParts, Feed, FeedExtract}
-use Rattle.cif_feed.proofs.Names.{FeedFault, FeedParts, Full, Header, HolidayCode, HolidayCodes, IfErr, IfOk, IsAssociationChange}
+use Rattle.cif_feed.proofs.Names.{FeedFault, FeedParts, Full, HandsOn, Header, HolidayCode, HolidayCodes, IfErr, IfOk, IsAssociationChange}
 use Rattle.cif_feed.proofs.Names.{IsFailure, IsFeedContent, IsFeedFault, IsFeedTruncated, IsFirstOfFeed, IsLine, IsNoTrailer}
 use Rattle.cif_feed.proofs.Names.{IsPublishedAssociation, IsPublishedOf, IsPublishedSchedule, IsRefusedContent, IsScheduleChange, IsTrue}
 use Rattle.cif_feed.proofs.Names.{IsUpdateOf, List, Makes, MarkParts, None, NotUpdate, Ok, Option, OutOfOrder, PublishedAssociation}
@@ -164,6 +164,9 @@ one_published allowed cs p q s t =
 -- ---- what is read
 
 module _ (allowed : HolidayCodes) (max : ℕ) where
+  pub reads-published : (f : FeedFault) → HandsOn (reading_feed Full allowed max) (reading_published allowed max) f
+  reads-published f = record { fault = λ bytes after h. h; answers = λ h. h; same = refl }
+
   pub makes-published : (lines : FeedExtract) (x : PublishedExtract) → SayPublished (feed_parts lines) (published_parts x)
       → x.counts ≡ lines.marks.counts → x.passed ≡ lines.marks.passed
       → Makes (reading_feed Full allowed max) (reading_published allowed max) lines x

@@ -1,6 +1,6 @@
 -- An update that was read is done, or a line of it is refused; and updates are done one after another.
 use Rattle.cif_feed.proofs.Names.{AlreadyThere, AreAfter, AreRefused, AreRefusedLines, Bool, BytesSpellPublished, BytesSpellUpdate, Err}
-use Rattle.cif_feed.proofs.Names.{FeedFault, FitsColumns, Header, IfOk, IsDone, IsFailure, IsLineRefused, IsUpdateFault, IsUpdateOf}
+use Rattle.cif_feed.proofs.Names.{FeedFault, FitsColumns, HandsOn, Header, IfOk, IsDone, IsFailure, IsLineRefused, IsUpdateFault, IsUpdateOf}
 use Rattle.cif_feed.proofs.Names.{IsUpdated, IsUpdatedBy, List, Makes, MatchResult, MayBeDone, NotThere, Ok, PublishedAssociation}
 use Rattle.cif_feed.proofs.Names.{PublishedParts, PublishedSchedule, RecordChange, RefusedLine, Refuses, Result, Some, Tiploc, Unread}
 use Rattle.cif_feed.proofs.Names.{UpdateParts, [], all_codes, ap, append-nil, append_assoc, append_cancel_left, changes_of, cond}
@@ -62,6 +62,12 @@ one_list u old p q a b =
     (one_refused _ old.schedules u.schedules a.schedules b.schedules a.of_schedules b.of_schedules) ∙ sym b.are
 
 module _ (lenient : Bool) (max : ℕ) (old new : PublishedParts) where
+  pub reads-updating : (f : FeedFault) → HandsOn (reading_update max) (updating lenient old new max) f
+  reads-updating (OutOfSequence line) = record { fault = λ bytes after h. absurd h; answers = λ h. tt; same = refl }
+  reads-updating (NotThere line) = record { fault = λ bytes after h. absurd h; answers = λ h. tt; same = refl }
+  reads-updating (AlreadyThere line) = record { fault = λ bytes after h. absurd h; answers = λ h. tt; same = refl }
+  reads-updating _ = record { fault = λ bytes after h. h; answers = λ h. h; same = refl }
+
   line_refused : (u : Update) (waived : List RefusedLine) → AreRefusedLines (update_parts u) old waived → (line : RefusedLine)
       → (lenient ≡ false) × (slice_get waived 0 ≡ Some line) → (bytes : List ℕ) → IsUpdateOf max bytes u
       → IsLineRefused lenient old max bytes line

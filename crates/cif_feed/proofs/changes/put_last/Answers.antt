@@ -1,7 +1,7 @@
 -- The change that is taken next is put if it is the last of its key.
-use Rattle.cif_feed.proofs.Names.{Option, [], ap, arith, at_keys, changes_of, cond, drop, drop-drop, eq_by_cmp_equiv, get, length}
-use Rattle.cif_feed.proofs.Names.{length-append, length-reverse, on_equiv, option_to_list, put_last, reverse, reverse-append, same_by, sym}
-use Rattle.cif_feed.proofs.Names.{with_keys, ◌++◌, ◌∙◌, ◌∷◌, ◌≡◌}
+use Rattle.cif_feed.proofs.Names.{Option, [], ap, append-nil, arith, at_keys, changes_of, cond, drop, drop-drop, eq_by_cmp_equiv, get}
+use Rattle.cif_feed.proofs.Names.{length, length-append, length-reverse, nil_from_length, on_equiv, option_to_list, put_last, reverse}
+use Rattle.cif_feed.proofs.Names.{reverse-append, same_by, sym, with_keys, ◌++◌, ◌∙◌, ◌∷◌, ◌≡◌}
 use Rattle.cif_feed.proofs.ChangeSteps.{last-of_all, put-more}
 use Rattle.cif_feed.proofs.changes.put_last.Goals as goal
 
@@ -31,3 +31,14 @@ loop-change-preserved g c =
           (omega (arith, long, length-reverse c.args.changes.items)))
           ∙ ap (λ l. with_keys key c.loop-change.records.items ++ put_last same (changes_of key l)) (sym turned) ∙ so_far last,
     )
+
+pub returns : goal.returns
+returns g c =
+    let (long, rest, so_far) = c.loop-change.invariant in
+    let key = g.R.Keyed.key in
+    let none : c.loop-change.changes.items ≡ [] =
+    nil_from_length c.loop-change.changes.items (omega (arith, c.in_default.ensures.cases.0, c.loop-change.changes.ok.0)) in
+    λ last.
+    sym (ap (λ l. with_keys key c.loop-change.records.items ++ put_last (same_by g.R.Rank.Ord.cmp g.R.Keyed.rank)
+    (changes_of key (reverse l))) none
+    ∙ append-nil (with_keys key c.loop-change.records.items)) ∙ so_far last

@@ -1,9 +1,9 @@
 -- Key by key (`FoundKeys`): the first run of positions is all of a key, whose clash dates are found.
-use Rattle.cif_feed.proofs.Names.{All, All-drop, All-take, AreClashDays, List, all-within, arith, get, keyed, length, published_by, subst}
-use Rattle.cif_feed.proofs.Names.{sym, ℕ, ◌+◌, ◌<◌}
+use Rattle.cif_feed.proofs.Names.{All, All-drop, All-take, AreClashDays, List, all-within, arith, eqb-true, get, keyed, length}
+use Rattle.cif_feed.proofs.Names.{nil_from_length, published_by, subst, sym, ℕ, ◌+◌, ◌<◌}
 use Rattle.cif_calendar.proofs.FirstClash.{same_key-cmp}
 use Rattle.cif_feed.proofs.CountedClashes.{counted-none}
-use Rattle.cif_feed.proofs.FoundKeys.{AreFoundUpTo, found-more, found-nothing, get-none, key-reported}
+use Rattle.cif_feed.proofs.FoundKeys.{AreFoundUpTo, found-all, found-more, found-nothing, get-none, key-reported}
 use Rattle.cif_feed.proofs.dropped.find_clash_dates.Goals as goal
 
 pub loop-rest-init : goal.loop-rest-init
@@ -47,3 +47,14 @@ loop-rest-preserved g c =
           g.met.E.Key.Ord.total same c.loop-rest.reported.items _ _ _ c.loop-rest.rest.now c.loop-rest.invariant.found
           c.count_of_first_key.result c.count_of_first_key.ensures (rw c.split_at.ensures.front at of_key));
     }
+
+pub returns : goal.returns
+returns g c =
+    let es = keyed g.E.Entry.key g.E.Entry.terms c.args.entries.now in
+    let are = AreClashDays c.args.holidays.now (published_by g.E.Entry.key g.E.PublishedEntry.published c.args.entries.now)
+    c.args.window.now.first (c.args.window.now.last + 1) in
+    found-all g.E.Key.Ord.cmp es are g.E.NamedEntry.clash_of g.E.Entry.stands_for c.args.reported.now.items
+    c.loop-rest.reported.items (get g.E.Rank.Ord.cmp c.loop-rest.dates)
+    (subst (λ (rest : List ℕ). AreFoundUpTo g.E.Key.Ord.cmp es are g.E.NamedEntry.clash_of
+    g.E.Entry.stands_for c.args.reported.now.items c.loop-rest.reported.items (get g.E.Rank.Ord.cmp c.loop-rest.dates) rest)
+    (nil_from_length c.loop-rest.rest.now (eqb-true _ _ (sym c.loop-rest-test.ensures))) c.loop-rest.invariant.found)

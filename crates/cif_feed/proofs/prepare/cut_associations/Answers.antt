@@ -1,6 +1,7 @@
 -- One association more is cut at the clash dates of its key (`added-more`).
-use Rattle.cif_feed.proofs.Names.{Association, Contains, None, PublishedAssociation, [], association_entries, association_on}
-use Rattle.cif_feed.proofs.Names.{association_terms, ended, map, published_association_terms, refl, ℕ, ◌⊎◌}
+use Rattle.cif_feed.proofs.Names.{ArePrepared, Association, Contains, IsStopAmong, List, None, PublishedAssociation, []}
+use Rattle.cif_feed.proofs.Names.{association_entries, association_on, association_terms, ended, map, published_association_terms}
+use Rattle.cif_feed.proofs.Names.{published_associations, refl, subst, take_all, ℕ, ◌⊎◌}
 use Rattle.cif_feed.proofs.PreparedLists.{added-as, added-more, prepared-associations}
 use Rattle.cif_feed.proofs.prepare.cut_associations.Goals as goal
 
@@ -16,3 +17,9 @@ loop-one-preserved c = λ h days reads.
     (association_entries (map association_on c.add_parts.new.prepared.items)) last [] c.dates_of-dates.result.now
     c.loop-one-test.true c.one-item.is (c.prepared_last-last.ensures.last None) refl (c.dates_of-dates.ensures.reads days reads) added
     (c.loop-one.invariant h days reads)
+
+pub returns : goal.returns
+returns c = λ h days reads.
+    subst (λ (l : List PublishedAssociation). ArePrepared (IsStopAmong h days) c.args.window_last (published_associations l)
+    (association_entries (map association_on c.loop-one.prepared.items)))
+    (take_all c.loop-one.one-index c.args.associations.now c.loop-one-test.false) (c.loop-one.invariant h days reads)

@@ -1,6 +1,7 @@
 -- One schedule more is cut at the holidays of its code and at the clash dates of its train (`added-more`).
-use Rattle.cif_feed.proofs.Names.{Contains, PublishedSchedule, Schedule, ended, map, published_schedule_terms, schedule_entries}
-use Rattle.cif_feed.proofs.Names.{schedule_on, schedule_terms, ℕ, ◌⊎◌}
+use Rattle.cif_feed.proofs.Names.{ArePrepared, Contains, IsStopAmong, List, PublishedSchedule, Schedule, ended, map}
+use Rattle.cif_feed.proofs.Names.{published_schedule_terms, published_schedules, schedule_entries, schedule_on, schedule_terms, subst}
+use Rattle.cif_feed.proofs.Names.{take_all, ℕ, ◌⊎◌}
 use Rattle.cif_feed.proofs.PreparedLists.{added-as, added-more, prepared-schedules}
 use Rattle.cif_feed.proofs.prepare.cut_schedules.Goals as goal
 
@@ -18,3 +19,9 @@ loop-one-preserved c = λ days reads.
     (schedule_entries (map schedule_on c.add_parts.new.prepared.items)) last holidays dates
     c.loop-one-test.true c.one-item.is (c.prepared_last-last.ensures.last c.one-item.result.code) c.of.ensures.days
     (c.dates_of-dates.ensures.reads days reads) added (c.loop-one.invariant days reads)
+
+pub returns : goal.returns
+returns c = λ days reads.
+    subst (λ (l : List PublishedSchedule). ArePrepared (IsStopAmong c.args.holidays.now days) c.args.window_last (published_schedules l)
+    (schedule_entries (map schedule_on c.loop-one.prepared.items)))
+    (take_all c.loop-one.one-index c.args.schedules.now c.loop-one-test.false) (c.loop-one.invariant days reads)

@@ -1,6 +1,6 @@
 -- One line more is reported, or not (`reported-more`).
 use Rattle.cif_feed.proofs.Names.{RefusedLine, [], ap, append-nil, append_assoc, cond, eq-eqb, get_or, last_line, ne_eqb, reported_once}
-use Rattle.cif_feed.proofs.Names.{sym, take, take_more, ℕ, ◌++◌, ◌+◌, ◌==◌, ◌∙◌, ◌∷◌, ◌≡◌}
+use Rattle.cif_feed.proofs.Names.{sym, take, take_all, take_more, ℕ, ◌++◌, ◌+◌, ◌==◌, ◌∙◌, ◌∷◌, ◌≡◌}
 use Rattle.cif_feed.proofs.{UpdatesInTurn.last-more, UpdatesInTurn.reported-more, update.report_once.Goals.else-line-last}
 use Rattle.cif_feed.{proofs.update.report_once.Goals.then-line-last+in_ok-push, specs.declared.changes.Unfit.TheVariants.OutOfSequence}
 use Rattle.cif_feed.proofs.update.report_once.Goals as goal
@@ -30,3 +30,13 @@ loop-line-preserved c =
       ],
       sym (ap (last_line p) more ∙ last-more p (take i xs) x),
     )
+
+pub returns-clause-reported : goal.returns-clause-reported
+returns-clause-reported c =
+    c.loop-line.invariant.0
+    ∙ ap (λ l. c.args.reported.now.items ++ reported_once c.args.previous l)
+    (take_all c.loop-line.line-index c.args.refused.now c.loop-line-test.false)
+
+pub returns-clause-last : goal.returns-clause-last
+returns-clause-last c =
+    c.loop-line.invariant.1 ∙ ap (last_line c.args.previous) (take_all c.loop-line.line-index c.args.refused.now c.loop-line-test.false)

@@ -1,9 +1,14 @@
 -- The cells are as one (`same-cells`), or else they go behind the row and are one (`other-cells`).
-use Rattle.cif_views.proofs.Names.{Whole, [], column, ◌∙◌, ◌∷◌}
+use Rattle.cif_views.proofs.Names.{Whole, [], and_parts, ap, arith, column, leb-true, length, length-append, nat_le, ◌∙◌, ◌∷◌}
 use Rattle.cif_canon.proofs.AppendedTexts.{nothing, text-is}
 use Rattle.cif_views.{proofs.DifferingFields.other-cells, proofs.DifferingFields.same-cells, specs.DifferenceTable.text}
 use Rattle.cif_views.proofs.TableRows.{as-field, copied, more-pushed, row-is}
 use Rattle.cif_views.proofs.difference_table.write_field.Goals as goal
+
+pub push_text-requires : goal.push_text-requires
+push_text-requires g c =
+    let long = length c.args.field.now.0.now in
+    omega (arith, c.requires.begun, leb-true long 20 (and_parts (nat_le long 20) _ c.requires.field).0, ap length c.copy-row.ensures)
 
 pub returns-then-eq : goal.returns-then-eq
 returns-then-eq g c =
@@ -11,6 +16,10 @@ returns-then-eq g c =
     (same-cells (column c.args.field.now) c.requires.field c.args.begun.now c.args.kind c.args.left.now c.args.right.now
     c.text_of-one.result.now c.text_of-other.result.now c.span_in-span.result c.span_in-span.ensures c.text_of-one.ensures.text
     c.text_of-other.ensures.text _ c.eq.ensures c.if-eq.true) (nothing _ _ _)
+
+pub write-requires-clause-some : goal.write-requires-clause-some
+write-requires-clause-some g c =
+    let long = ap length c.push-2.ensures.text ∙ length-append c.push.new.self _ in omega (arith, long)
 
 pub returns : goal.returns
 returns g c =

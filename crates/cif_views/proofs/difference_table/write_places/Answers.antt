@@ -1,8 +1,22 @@
 -- One place more is written (`one-place`).
-use Rattle.cif_views.proofs.Names.{arith, both, is_call, place_behind, places_behind, ◌++◌}
+use Rattle.cif_views.proofs.Names.{[], ap, arith, both, is_call, length, place_behind, places_behind, refl, ◌++◌}
+use Rattle.cif_canon.proofs.AppendedTexts.{nothing}
 use Rattle.cif_views.proofs.DifferingFields.{as-many, one-place, rest-places}
 use Rattle.cif_views.proofs.TableRows.{first-and-rest, next-call, some-lines}
 use Rattle.cif_views.proofs.difference_table.write_places.Goals as goal
+
+pub loop-lefts-init : goal.loop-lefts-init
+loop-lefts-init g c = ([], nothing _ _ _, refl, c.requires.places, omega arith)
+
+pub first-other-requires : goal.first-other-requires
+first-other-requires g c =
+    let (text, written, left, same, few) = c.loop-lefts.invariant in
+    omega (arith, some-lines c.loop-lefts.lefts _ c.is_empty.ensures c.loop-lefts-test.true, as-many c.loop-lefts.lefts _ same)
+
+pub rest-rights-requires : goal.rest-rights-requires
+rest-rights-requires g c =
+    let (text, written, left, same, few) = c.loop-lefts.invariant in
+    omega (arith, some-lines c.loop-lefts.lefts _ c.is_empty.ensures c.loop-lefts-test.true, as-many c.loop-lefts.lefts _ same)
 
 pub loop-lefts-preserved : goal.loop-lefts-preserved
 loop-lefts-preserved g c =
@@ -30,3 +44,8 @@ loop-lefts-preserved g c =
       rest-places lefts rights more others same some c.rest-lefts.ensures c.rest-rights.ensures,
       next-call (is_call kind) call next _ lefts more one is c.call_after-call.ensures few,
     )
+
+pub loop-lefts-smaller : goal.loop-lefts-smaller
+loop-lefts-smaller g c =
+    let some = some-lines c.loop-lefts.lefts _ c.is_empty.ensures c.loop-lefts-test.true in
+    omega (arith, ap length (first-and-rest c.loop-lefts.lefts _ _ some c.first-one.ensures c.rest-lefts.ensures))

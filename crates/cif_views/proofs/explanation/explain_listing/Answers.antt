@@ -27,3 +27,9 @@ returns-clause-view g c =
           (map (placed_of (λ (s : Schedule). s.uid) schedule_terms) es)) (sym c.as_slice-4.ensures.value) c.in_ok-trains.ensures)
           others.1),
     )
+
+pub write_explained-requires : goal.write_explained-requires
+write_explained-requires g c = record { rising = rw c.as_slice-3.ensures.value c.in_ok-associations.ensures.rising }
+
+pub write_explained-requires-2 : goal.write_explained-requires-2
+write_explained-requires-2 g c = record { rising = rw c.as_slice-4.ensures.value c.in_ok-trains.ensures.rising }

@@ -1,11 +1,19 @@
 -- One entry after another is looked at, and a sort puts them in order: it is total, and no two have one place (`placed-sorted`).
 use Rattle.cif_views.proofs.Names.{ArePlacedBelow, ap, arith, false≢true, is_lt, keyed, length, length-map, map, map-append, placed_at}
 use Rattle.cif_views.proofs.Names.{placed_cmp, placed_of, ranks_by, refl, rules, some_pair_parts, subst, sym, terms_at, ◌+◌, ◌∙◌, ◌≡◌}
-use Rattle.std.proofs.lemmas.Fn.{always_returns_same}
+use Rattle.std.proofs.{lemmas.Fn.always_returns_same, lemmas.List.Elements.All-nil}
 use Rattle.cif_calendar.specs.Applies.{Applies}
 use Rattle.cif_views.proofs.Explaining.{placed-more, placed-no_more, placed-sorted, placed_total}
 use Rattle.cif_views.proofs.marks.records_on.Goals as goal
 use Rattle.cif_views.proofs.marks.records_on.Goals.{else-is_applying, then-is_applying+in_ok-push}
+
+pub loop-place-init : goal.loop-place-init
+loop-place-init g c = rw c.new-applying.ensures.items (record {
+  found = All-nil _;
+  below = All-nil _;
+  all = λ p is below. absurd (omega (arith, below));
+  rising = λ i j d less within. absurd (omega (arith, within));
+})
 
 pub loop-place-preserved : goal.loop-place-preserved
 loop-place-preserved g c =

@@ -51,3 +51,10 @@ pub returns-clause-width : goal.returns-clause-width
 returns-clause-width c =
     let here = (goal.at.returns-clause-width c).After-put_on-5 in
     ap length (built here) ∙ length-plain_line (rows here) refl (fits here)
+
+pub returns-clause-fits : goal.returns-clause-fits
+returns-clause-fits c = λ d are.
+    let here = (goal.at.returns-clause-fits c).After-put_on-5 in
+    let last = basic_back c.args.self.now.letter in
+    fits-append (front here) (detail_rows d ++ last) (front-fits here)
+    (fits-append (detail_rows d) last are (tt & c.put_on-5.ensures.fits & tt))

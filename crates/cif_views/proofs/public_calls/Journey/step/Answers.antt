@@ -16,3 +16,10 @@ returns-clause-by c = λ n by.
       late = omega (arith, late, from, rising);
       early = shown.upto (midnight + 86400 * (n + 2 + 1)) (omega (arith, early)) (omega (arith, reached)) (omega (arith, left));
     }
+
+pub returns-clause-shown : goal.returns-clause-shown
+returns-clause-shown c =
+    let (n, few, by) = c.requires in
+    let early = (returns-clause-by c n by).early in
+    let (from, rising) = c.in_ok-shown.ensures.from in
+    record { arrival = omega (arith, by.late, from); departure = rising; early = omega (arith, few, early) }
