@@ -2,8 +2,7 @@
 use Rattle.cif_calendar.proofs.Names.{Ambiguous, ArePositionsOf, C, CalendarFault, CalendarParts, IsCalendar, IsChosen, IsClearFrom}
 use Rattle.cif_calendar.proofs.Names.{IsFault, IsNone, IsSome, IsSource, IsWinnerAt, List, Memory, Option, Runs, Some, Terms, Wins, body_on}
 use Rattle.cif_calendar.proofs.Names.{keyed, map, of_key, same_Some, slice_get, source_at, subst, sym, ℕ, ◌↔◌, ◌∙◌, ◌≡◌, ◌≤◌}
-use Rattle.cif_calendar.proofs.Meaning.{Runs-unique}
-use Rattle.cif_calendar.proofs.Positions.{AreLawful-of_key, positions-records, terms_at-keyed}
+use Rattle.cif_calendar.proofs.{Meaning.Runs-unique, Positions.AreLawful-of_key, Positions.positions-records, Positions.terms_at-keyed}
 use Rattle.cif_calendar.proofs.Sets.{IsClearFrom-same, IsFirstClash-same, Runs-same, Wins-same}
 
 module _ {E K B : Type 0} (key : E → K) (terms : E → Terms B) (es : List E) (k : K) (members : List ℕ)

@@ -1,9 +1,8 @@
 -- Pieces one after another, and the source of a day.
 use Rattle.cif_calendar.proofs.Names.{Bool, Contains, List, Piece, Tiles, [], ap, arith, cond, false, get_or, length, ltb, ltb-false}
 use Rattle.cif_calendar.proofs.Names.{ltb-true, refl, source_at, suc, sym, true, winner_of, zero, ℕ, ⊎_elim, ◌++◌, ◌+◌, ◌<◌, ◌∙◌, ◌∷◌, ◌≡◌}
-use Rattle.cif_calendar.proofs.Names.{◌≤◌}
+use Rattle.cif_calendar.proofs.{Elements.Contains-cases, Elements.Contains-first, Elements.Contains-rest, Names.◌≤◌}
 use Rattle.std.{proofs.lemmas.Bool.Decides.leb_tells, specs.List.Sorted.IsNonDecreasingBy, specs.List.Sorted.IsPartitionPoint}
-use Rattle.cif_calendar.proofs.Elements.{Contains-cases, Contains-first, Contains-rest}
 
 pub tiles-push : (ps : List Piece) (a b : ℕ) (p : Piece) → Tiles ps a b → p.first ≡ b → p.first ≤ p.last →
     Tiles (ps ++ p ∷ []) a (p.last + 1)

@@ -7,9 +7,8 @@ use Rattle.cif_canon.proofs.Names.{line_of_association, line_of_tiploc, lines_of
 use Rattle.cif_canon.proofs.Names.{plain_line, record_at, refl, run_text, schedule_entries, schedule_plain, slice_cmp, sym, text_if, ℕ}
 use Rattle.cif_canon.proofs.Names.{◌++◌, ◌+◌, ◌<◌, ◌∙◌, ◌∷◌, ◌≡◌}
 use Rattle.std.proofs.lemmas.List.Concat.{flat_map_single}
-use Rattle.cif_canon.proofs.CanonTexts.{texts-of_runs}
-use Rattle.cif_canon.proofs.KeptExtract.{canonical_of, dated-associations, dated-schedules}
-use Rattle.cif_canon.proofs.MadeExtract.{IsDated, associations_of, schedules_of}
+use Rattle.cif_canon.proofs.{CanonTexts.texts-of_runs, KeptExtract.canonical_of, KeptExtract.dated-associations}
+use Rattle.cif_canon.proofs.{KeptExtract.dated-schedules, MadeExtract.IsDated, MadeExtract.associations_of, MadeExtract.schedules_of}
 
 -- the lines of associations, and of schedules
 lines-of_associations : (es : List (AssocKey × Permanent AssocBody)) (h : All IsDated es) →

@@ -5,11 +5,10 @@ use Rattle.cif_canon.proofs.Names.{IsKeyFault, IsRecordsFault, IsRising, IsRunOf
 use Rattle.cif_canon.proofs.Names.{Window, [], canonical-more, canonical-none, drop, first-leads, inl, inr, key-or-later, later-less}
 use Rattle.cif_canon.proofs.Names.{left-before, length, less_one_way, no-entry, none-clear, not_less, of_key, of_key-more, passed-more}
 use Rattle.cif_canon.proofs.Names.{records-meaning, refl, rising-after, slice_get_within, subst, sym, take, turn, with_key, ℕ, ⊎_elim, ◌++◌}
-use Rattle.cif_canon.proofs.Names.{◌<◌, ◌≡◌, ◌⊎◌}
+use Rattle.cif_canon.proofs.{KeyRecords.bodies-other, KeyRecords.bodies-own, KeyRecords.zip-keyed, Names.◌<◌, Names.◌≡◌, Names.◌⊎◌}
 use Rattle.cif_extract.specs.declared.fault.Clash as named
 use Rattle.cif_extract.specs.declared.fault.Fault.TheVariants as fault
 use Rattle.cif_calendar.proofs.KeyTurns.{decided}
-use Rattle.cif_canon.proofs.KeyRecords.{bodies-other, bodies-own, zip-keyed}
 
 module _ {K B : Type 0} (cmp : K → K → Ordering) (form : Form) (window : Window) (es : List (K × Terms B)) where
   -- the runs are those of all keys but the ones with entries at `rest`, which are after them

@@ -1,8 +1,7 @@
 -- What only one of two extracts says, as canonical records of each side, and the text of it.
 use Rattle.std.specs.Prelude.{AllPairs, Bool, Contains, List, None, Option, Some, [], codes, false, if◌then◌else◌, map, true, ℕ, ◌++◌, ◌↔◌}
-use Rattle.std.specs.Prelude.{◌∷◌, ◌≡◌, ◌⊎◌}
-use Rattle.std.specs.{Cmp.Lexicographic.slice_cmp, List.flat_map, Ordering.nat_cmp}
-use Rattle.std.specs.declared.{cmp.Ordering.Ordering, cmp.Ordering.TheVariants.Less}
+use Rattle.std.specs.{Cmp.Lexicographic.slice_cmp, List.flat_map, Ordering.nat_cmp, Prelude.◌∷◌, Prelude.◌≡◌, Prelude.◌⊎◌}
+use Rattle.std.specs.{declared.cmp.Ordering.Ordering, declared.cmp.Ordering.TheVariants.Less}
 use Rattle.cif_calendar.specs.{Entries.association_entries, Entries.schedule_entries, Keys.of_key, Terms.Terms}
 use Rattle.cif_calendar.specs.Runs.{BodyRuns, NothingRuns, Runs}
 use Rattle.cif_columns.specs.{Contents.lines_text, Field.plain_line, declared.stp.Stp.TheVariants.P}

@@ -1,12 +1,10 @@
 -- Why there is no canonical form.
-use Rattle.std.specs.Prelude.{ℕ, ⊤, List}
-use Rattle.std.specs.{Cmp.Lexicographic.slice_cmp, Ordering.nat_cmp}
+use Rattle.std.specs.{Cmp.Lexicographic.slice_cmp, Ordering.nat_cmp, Prelude.List, Prelude.ℕ, Prelude.⊤}
 use Rattle.cif_calendar.specs.{Entries.association_entries, Entries.schedule_entries, Keys.AreClear, Keys.IsFirstClashOf}
 use Rattle.cif_extract.specs.{ExtractParts.ExtractParts, ExtractParts.extract_parts, ReadCall.ReadCall, ReadCall.reading}
-use Rattle.cif_extract.specs.{SpellsExtract.BytesSpellWithin}
-use Rattle.cif_extract.specs.ReadFault.{IsOfReading, IsReadFault, is_read}
-use Rattle.cif_extract.specs.declared.{extract.Extract.Extract, fault.Clash.Clash, fault.Clash.TheVariants.Association}
-use Rattle.cif_extract.specs.declared.{fault.Clash.TheVariants.Train, fault.Fault.Fault}
+use Rattle.cif_extract.specs.{ReadFault.IsOfReading, ReadFault.IsReadFault, ReadFault.is_read, SpellsExtract.BytesSpellWithin}
+use Rattle.cif_extract.specs.{declared.extract.Extract.Extract, declared.fault.Clash.Clash, declared.fault.Clash.TheVariants.Association}
+use Rattle.cif_extract.specs.{declared.fault.Clash.TheVariants.Train, declared.fault.Fault.Fault}
 use Rattle.cif_extract.specs.declared.fault.Fault.TheVariants.{Ambiguous, OutsideWindow, WindowReversed, Read, Write, Memory}
 use Rattle.cif_records.specs.AssocKey.{key_cmp}
 use Rattle.cif_canon.specs.{Accepted.SpellsNarrowed, Asked.IsNarrowingFault, declared.asked.Asked.Asked}

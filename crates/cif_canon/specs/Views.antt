@@ -9,9 +9,8 @@ use Rattle.cif_extract.specs.declared.{fault.Fault.Fault, fault.Fault.TheVariant
 use Rattle.cif_records.specs.{AssocKey.key_cmp, declared.association.AssocBody.AssocBody, declared.association.AssocKey.AssocKey}
 use Rattle.cif_weeks.specs.{Canonical.AreCanonical, Permanent.Permanent, Permanent.permanent_entries, Window.IsWithin}
 use Rattle.cif_weeks.specs.declared.form.Form.{Form}
-use Rattle.cif_canon.specs.{Accepted.IsClearExtract, Asked.header_window, Fault.IsCanonFault, Fields.line_of}
-use Rattle.cif_canon.specs.Rows.{association_row, schedule_row, train_row}
-use Rattle.cif_canon.specs.declared.rows.Format.TheVariants.{Text}
+use Rattle.cif_canon.specs.{Accepted.IsClearExtract, Asked.header_window, Fault.IsCanonFault, Fields.line_of, Rows.association_row}
+use Rattle.cif_canon.specs.{Rows.schedule_row, Rows.train_row, declared.rows.Format.TheVariants.Text}
 
 -- What runs on day d, each key once and rising. `cmp` is the order of the keys.
 pub record AreRunning {K B : Type 0} (cmp : K → K → Ordering) (entries : List (K × Terms B)) (d : ℕ) (running : List (K × B))

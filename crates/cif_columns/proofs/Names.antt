@@ -28,11 +28,10 @@ pub use Rattle.jiff_core.proofs.CalendarLemmas.{day_count-day, day_count-day_of_
 pub use Rattle.jiff_core.proofs.CalendarLemmas.{day_count-lt_year, day_count-next_month, day_count-next_year, days_from_civil-day_count}
 pub use Rattle.jiff_core.proofs.CalendarLemmas.{days_in_month_bounds, weekday_number-parts}
 pub use Rattle.jiff_core.proofs.{MarchLemmas.day_count-early, SignedLemmas.back_small, SignedLemmas.signed_arith}
-pub use Rattle.std.specs.Char.{is_ascii_digit, is_ascii_whitespace}
-pub use Rattle.std.specs.Cmp.Lexicographic.{bytes_decides, pointwise, slice_cmp}
+pub use Rattle.std.specs.{Char.is_ascii_digit, Char.is_ascii_whitespace, Cmp.Lexicographic.bytes_decides, Cmp.Lexicographic.pointwise}
+pub use Rattle.std.specs.{Cmp.Lexicographic.slice_cmp, Str.Lines.lines, Str.Lines.lines_of_parts, Str.Lines.strip_carriage_return}
 pub use Rattle.std.specs.Io.KnownBytes.{Appends, Consumes, IsAtEnd, Keeps, ReadConsumes, prepend_known}
 pub use Rattle.std.specs.List.{copy_within, list_all, list_any, onto_first, slice_split}
-pub use Rattle.std.specs.Str.Lines.{lines, lines_of_parts, strip_carriage_return}
 pub use Rattle.jiff.specs.Types.{Date}
 pub use Rattle.jiff_core.specs.Calendar.{day_count, days_from_civil, days_in_month}
 pub use Rattle.cif_columns.specs.Activities.{AreCodes, IsCode, codes_columns, codes_in, packed}

@@ -2,10 +2,9 @@
 use Rattle.cif_columns.proofs.Names.{AreAhead, ArePrintable, BeginWithLine, Content, EndsAtFeed, HasPassed, IsLine, IsNextBy, Keeps-refl}
 use Rattle.cif_columns.proofs.Names.{Line, LineReader, List, Most, Of, Ok, Option, Reading, Some, Source, ap, arith, drop, drop-cons}
 use Rattle.cif_columns.proofs.Names.{length, length-take, most_by, past, prepend_known, reader_of, sym, take-append-drop, ℕ, ◌++◌, ◌+◌, ◌<◌}
-use Rattle.cif_columns.proofs.Names.{◌∙◌, ◌∷◌, ◌≡◌}
-use Rattle.cif_columns.proofs.{ContentAnswers.none_decided, GivenLinesLaws.known_so, LineAnswers.gives_line, PlainLines.unstripped}
-use Rattle.cif_columns.proofs.{ReadSources.read_nothing}
-use Rattle.cif_columns.proofs.FirstContents.{content_first, fed_decides, passed_left}
+use Rattle.cif_columns.proofs.{ContentAnswers.none_decided, FirstContents.content_first, FirstContents.fed_decides}
+use Rattle.cif_columns.proofs.{FirstContents.passed_left, GivenLinesLaws.known_so, LineAnswers.gives_line, Names.◌∙◌, Names.◌∷◌, Names.◌≡◌}
+use Rattle.cif_columns.proofs.{PlainLines.unstripped, ReadSources.read_nothing}
 use Rattle.cif_columns.specs.LineReader.{given, held, left, limit}
 
 -- eighty bytes of a line and a line feed

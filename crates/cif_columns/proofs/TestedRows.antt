@@ -5,9 +5,8 @@ use Rattle.cif_columns.proofs.Names.{codes, codes_in, columns, eqb-true, exactly
 use Rattle.cif_columns.proofs.Names.{is_whole_from, is_work_time, leb-true, left_justified, length, length-replicate, nat_eq, or_cases}
 use Rattle.cif_columns.proofs.Names.{packed, public_time, read_off, read_value, refl, replicate, rules, spare, subst, sym, text}
 use Rattle.cif_columns.proofs.Names.{text_from_reads, text_of, true, working_time, ℕ, ◌+◌, ◌-◌, ◌<◌, ◌∙◌, ◌∷◌, ◌≡◌, ◌≤◌, ◌⊎◌}
-use Rattle.cif_columns.proofs.{Codes.stands-codes_in, PackedCodes.AreLeft, PackedCodes.left_same, Parts.whole-first, TestedTexts.text_part}
-use Rattle.cif_columns.{proofs.Texts.is_text_of, proofs.PlainColumns.whole-within}
-use Rattle.cif_columns.proofs.ColumnReads.{asked_at, read, width}
+use Rattle.cif_columns.proofs.{Codes.stands-codes_in, ColumnReads.asked_at, ColumnReads.read, ColumnReads.width, PackedCodes.AreLeft}
+use Rattle.cif_columns.proofs.{PackedCodes.left_same, Parts.whole-first, PlainColumns.whole-within, TestedTexts.text_part, Texts.is_text_of}
 use Rattle.cif_columns.proofs.PlainColumns.{ArePlain, IsPlain, IsPlainActivities, IsPlainText, blank-spaces, plain-blank, plain_already}
 use Rattle.cif_columns.proofs.TestedTimes.{InOrSpace, IsClockOrBlank, public_passes, work_passes}
 use Rattle.cif_columns.proofs.Times.{five, four, public-stands, work-stands}

@@ -36,14 +36,15 @@ pub use Rattle.cif_extract.specs.Body.{detail_of, is_extra, journey_in, parts_in
 pub use Rattle.cif_extract.specs.BodyParts.{BodyParts, body_records, extra_records, journey_records}
 pub use Rattle.cif_extract.specs.Call.{SpellsSomeCall, before_last, call_in, call_record}
 pub use Rattle.cif_extract.specs.{ExtractParts.ExtractParts, ExtractParts.extract_parts, Fault.of_line_fault, Layouts.Layouts}
-pub use Rattle.cif_extract.specs.{Layouts.own_layouts}
+pub use Rattle.cif_extract.specs.{Layouts.own_layouts, OrderOfRecords.place_behind_by, ReadFault.IsReadAs, ReadFault.IsReadFault}
+pub use Rattle.cif_extract.specs.{ReadFault.reading_extract, declared.call.Call.Call, declared.call.Call.TheVariants.At}
+pub use Rattle.cif_extract.specs.{declared.call.Call.TheVariants.Turn, declared.extract.Extract.Extract, declared.extract.Schedule.Schedule}
+pub use Rattle.cif_extract.specs.{declared.fault.Fault.Fault, declared.place.Place.Place, declared.reading.TakeFault.TakeFault}
 unfoldable pub use Rattle.cif_extract.specs.{FirstRefusal.refusal_of, Texts.schedule_lines}
 pub use Rattle.cif_extract.specs.FirstRefusal.{IsCutBeforeRefusal, IsFirstRefusal, IsRefusedLine, IsTruncated, NoneRefused, order_refusal}
 pub use Rattle.cif_extract.specs.Grammar.{AreExtract, AreJourney, AreSchedule, AreSchedules, BeginExtract, HaveBody, records_before_trailer}
 pub use Rattle.cif_extract.specs.OrderOfRecords.{AreInOrder, MayComeAfter, after_extra, after_further, may_stand, place_after, place_behind}
-pub use Rattle.cif_extract.specs.OrderOfRecords.{place_behind_by}
 pub use Rattle.cif_extract.specs.ReadCall.{IsOwed, IsReadWhole, IsResultOf, IsResultOfBoth, ReadCall}
-pub use Rattle.cif_extract.specs.ReadFault.{IsReadAs, IsReadFault, reading_extract}
 pub use Rattle.cif_extract.specs.SpellsExtract.{BytesSpell, BytesSpellWithin, SpellAll, SpellAllBy, SpellExtract, SpellExtractBy}
 pub use Rattle.cif_extract.specs.Steps.Reading.{GoesOnPlainly, HasLast, HasOwn, HasRead, HasReadAt, IsCancelled, IsClosed, IsFurther}
 pub use Rattle.cif_extract.specs.Steps.Reading.{IsFurtherPlainly, IsKeepable, IsKept, IsOpened, IsTaken, IsTakenAs, IsWhole, IsWithin}
@@ -51,5 +52,3 @@ pub use Rattle.cif_extract.specs.Steps.Reading.{Progress, UnlessRefused, begun_j
 pub use Rattle.cif_extract.specs.Steps.Reading.{parts_with_header, progress_of, schedule_of, step, with_kept, with_schedule}
 pub use Rattle.cif_extract.specs.Taken.{HasTaken, IsNoTrailer, IsTakenBehind, refusal_at, refusal_behind}
 pub use Rattle.cif_extract.specs.Texts.{FitsColumns, ScheduleFits, extract_lines, extract_text, further_lines, plain_lines_of}
-pub use Rattle.cif_extract.specs.declared.{call.Call.Call, call.Call.TheVariants.At, call.Call.TheVariants.Turn, extract.Extract.Extract}
-pub use Rattle.cif_extract.specs.declared.{extract.Schedule.Schedule, fault.Fault.Fault, place.Place.Place, reading.TakeFault.TakeFault}

@@ -14,10 +14,9 @@ use Rattle.cif_columns.specs.declared.refusal.LineFault.TheVariants as line_faul
 use Rattle.cif_columns.specs.declared.refusal.Refusal.TheVariants as refusal
 use Rattle.cif_records.proofs.Records.{kind_of as record_kind}
 use Rattle.cif_records.specs.declared.record.Record.TheVariants as of
-use Rattle.cif_extract.proofs.FirstRefusals.{at_fault, none_refused-more, none_refused-none}
-use Rattle.cif_extract.proofs.{JourneySteps.has_read_more, LayoutLaws.AreLayouts, LayoutLaws.own_are}
-use Rattle.cif_extract.proofs.Places.{place_more, place_past, refused_at}
-use Rattle.cif_extract.proofs.ReadCalls.{answers, of_any, refuses}
+use Rattle.cif_extract.proofs.{FirstRefusals.at_fault, FirstRefusals.none_refused-more, FirstRefusals.none_refused-none}
+use Rattle.cif_extract.proofs.{JourneySteps.has_read_more, LayoutLaws.AreLayouts, LayoutLaws.own_are, Places.place_more, Places.place_past}
+use Rattle.cif_extract.proofs.{Places.refused_at, ReadCalls.answers, ReadCalls.of_any, ReadCalls.refuses}
 use Rattle.cif_extract.specs.Steps.Reading.{begun}
 use Rattle.cif_extract.specs.declared.fault.Fault.TheVariants as fault
 use Rattle.cif_extract.specs.declared.place.Place.TheVariants as at

@@ -1,9 +1,8 @@
 -- Bytes that spell an extract aren't refused, and spell no other.
 use Rattle.cif_extract.proofs.Names.{BytesSpell, BytesSpellWithin, Err, Extract, ExtractParts, Fault, IfErr, IfOk, IsFirstRefusal, IsReadAs}
 use Rattle.cif_extract.proofs.Names.{IsReadFault, IsTruncated, List, Ok, Refusal, Result, Unread, contents_of, extract_parts, own_layouts}
-use Rattle.cif_extract.proofs.Names.{ℕ, ⊎_elim, ◌≡◌}
-use Rattle.cif_extract.proofs.{FirstRefusals.fine-refused, LayoutLaws.own_are, OneExtract.one_extract, OrderLaws.spelled_fine}
-use Rattle.cif_extract.proofs.{SpelledLines.spelled_trailer}
+use Rattle.cif_extract.proofs.{FirstRefusals.fine-refused, LayoutLaws.own_are, Names.ℕ, Names.⊎_elim, Names.◌≡◌, OneExtract.one_extract}
+use Rattle.cif_extract.proofs.{OrderLaws.spelled_fine, SpelledLines.spelled_trailer}
 use Rattle.cif_extract.specs.declared.fault.Fault.TheVariants as fault
 
 -- bytes spell one extract at most

@@ -5,8 +5,7 @@ use Rattle.std.specs.List.{fold, list_any}
 use Rattle.cif_extract.specs.{Layouts.Layouts, Layouts.own_layouts, declared.place.Place.Place}
 use Rattle.cif_extract.specs.declared.place.Place.TheVariants.{Associations, Basic, Cancelled, CancelledExtra, Ended, Extra, Journey}
 use Rattle.cif_extract.specs.declared.place.Place.TheVariants.{Schedules, Start, Tiplocs}
-use Rattle.cif_records.specs.Kind.{identity, is_identity, kind_in}
-use Rattle.cif_records.specs.declared.record.Kind.{Kind}
+use Rattle.cif_records.specs.{Kind.identity, Kind.is_identity, Kind.kind_in, declared.record.Kind.Kind}
 use Rattle.cif_records.specs.declared.record.Kind.TheVariants.{Hd, Ti, Ta, Td, Aa, Bs, Bx, Lo, Li, Cr, Lt, Zz}
 
 -- the kinds that may stand there, place by place; TA and TD may where TI may, and are refused for what they are

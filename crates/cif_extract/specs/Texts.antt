@@ -1,10 +1,8 @@
 -- The plain lines of an extract and its text.
 use Rattle.std.specs.Prelude.{ℕ, All, Bool, List, [], ◌∷◌, ◌++◌, Option, None, Some, IfSome, drop, map}
 use Rattle.std.specs.{List.flat_map, Option.option_map}
-use Rattle.cif_columns.specs.{Contents.lines_text, declared.stp.Stp.Stp}
-use Rattle.cif_columns.specs.Field.{AllFit, Row, plain_line}
-use Rattle.cif_extract.specs.Body.{BodyLines, IsBody, detail_of}
-use Rattle.cif_extract.specs.{ExtractParts.ExtractParts, declared.extract.Schedule.Schedule}
+use Rattle.cif_columns.specs.{Contents.lines_text, Field.AllFit, Field.Row, Field.plain_line, declared.stp.Stp.Stp}
+use Rattle.cif_extract.specs.{Body.BodyLines, Body.IsBody, Body.detail_of, ExtractParts.ExtractParts, declared.extract.Schedule.Schedule}
 use Rattle.cif_records.specs.{Association.association_table, Basic.basic_rows, Header.header_table, Tiploc.tiploc_table}
 use Rattle.cif_records.specs.{Trailer.trailer_table, declared.association.Association.Association, declared.tiploc.Tiploc.Tiploc}
 

@@ -21,9 +21,11 @@ pub use Rattle.std.specs.List.{after_first, before_first, enumerate_from, items_
 pub use Rattle.cif_columns.proofs.ContentRuns.{HasGiven, at_limits, given_all, given_more, given_none, given_within}
 pub use Rattle.cif_columns.proofs.FirstContents.{content_first, overlong_content, some_content, stripped_long}
 pub use Rattle.cif_columns.proofs.GivenLinesLaws.{IsReadingContents, KnownContents, known_cut, known_decided, known_next, none_given}
-pub use Rattle.cif_columns.proofs.GivenLinesLaws.{one_more, reading_content, reading_starts}
+pub use Rattle.cif_columns.proofs.{GivenLinesLaws.one_more, GivenLinesLaws.reading_content, GivenLinesLaws.reading_starts}
+pub use Rattle.cif_columns.proofs.{JudgedContents.judged_all, JudgedContents.judged_all_given, JudgedContents.no_contents, Names.take_rest}
+pub use Rattle.cif_columns.proofs.{Names.weekdays, Names.width_of, PrintableBytes.printable_true, ReadSources.read_nothing}
+pub use Rattle.cif_columns.proofs.{WrittenTexts.failed_second, WrittenTexts.written_both}
 pub use Rattle.cif_columns.proofs.JudgedContents.{AreAll, AreJudgedAndRest, content_more, given_failed, given_overlong, given_too_many}
-pub use Rattle.cif_columns.proofs.JudgedContents.{judged_all, judged_all_given, no_contents}
 unfoldable pub use Rattle.cif_columns.proofs.Names.{begins_comment, is_comment}
 pub use Rattle.cif_columns.proofs.Names.{All-contains, All-drop, All-push, All-take, All-weaker, AreAllContents, AreContentsToCut}
 pub use Rattle.cif_columns.proofs.Names.{AreContentsToFault, AreContentsToRefusal, ArePrintable, BeginWithoutComment, Contains-append_right}
@@ -33,24 +35,20 @@ pub use Rattle.cif_columns.proofs.Names.{content, date, drop-append-add, drop-ta
 pub use Rattle.cif_columns.proofs.Names.{flat_map-append, get_or_default, indicator, is_whole_from, length-map, length-reverse, line_of}
 pub use Rattle.cif_columns.proofs.Names.{lines_of_parts, list_any, list_any-append, nil_from_length, plain_columns, reverse-append}
 pub use Rattle.cif_columns.proofs.Names.{reverse-reverse, same_Some, slice_cmp, slice_get_within, source_ended, strip_carriage_return}
-pub use Rattle.cif_columns.proofs.Names.{take_rest, weekdays, width_of}
-pub use Rattle.cif_columns.proofs.{PrintableBytes.printable_true, ReadSources.read_nothing}
-pub use Rattle.cif_columns.proofs.WrittenTexts.{failed_second, written_both}
 pub use Rattle.cif_columns.specs.{ContentReader.held, declared.ahead.ContentReader.ContentReader, declared.ahead.Most.TheVariants.InFeed}
 pub use Rattle.cif_columns.specs.{declared.ahead.Most.TheVariants.Of, declared.sink.Sink.Sink}
 pub use Rattle.cif_columns.specs.declared.refusal.Refusal.TheVariants.{BadByte, BadLength, OutOfOrder, TooManyLines}
-pub use Rattle.cif_records.proofs.Headers.{last_is_day}
-pub use Rattle.cif_records.proofs.Judging.{dates_fine, no_open_end, none-some}
+pub use Rattle.cif_records.proofs.{Headers.last_is_day, Judging.dates_fine, Judging.no_open_end, Judging.none-some}
 unfoldable pub use Rattle.cif_records.proofs.Names.{record_refusal}
 pub use Rattle.cif_records.proofs.Names.{StandsIn, association_rows, association_rows_by, basic_front_by, basic_table, dates_refusal}
 pub use Rattle.cif_records.proofs.Names.{days_of-stands, header_table, is_identity, kinds, length-plain_line, one_date_value, one_exactly}
 pub use Rattle.cif_records.proofs.Names.{one_indicator, one_weekdays, plain_line-append, stp_in-letter, yymmdd_in-stands}
 pub use Rattle.cif_records.specs.{AssocKey.key_cmp, declared.association.AssocBody.AssocBody, declared.association.AssocKey.AssocKey}
 pub use Rattle.cif_records.specs.{declared.record.Kind.TheVariants.Ta, declared.record.Kind.TheVariants.Td}
-pub use Rattle.cif_extract.proofs.{BodyFits.extract_fits, SpelledBytes.one_spelled, SpelledBytes.spelled-refused, TakenLines.refused_so}
-pub use Rattle.cif_extract.proofs.Each.{Each, each_append, each_map}
-pub use Rattle.cif_extract.proofs.FirstRefusals.{none_refused-more, not_true, or_none}
-pub use Rattle.cif_extract.proofs.LayoutLaws.{AreLayouts, letter_cancels, own_are}
+pub use Rattle.cif_extract.proofs.{BodyFits.extract_fits, Each.Each, Each.each_append, Each.each_map, FirstRefusals.none_refused-more}
+pub use Rattle.cif_extract.proofs.{FirstRefusals.not_true, FirstRefusals.or_none, LayoutLaws.AreLayouts, LayoutLaws.letter_cancels}
+pub use Rattle.cif_extract.proofs.{LayoutLaws.own_are, ReadingRuns.taken_behind, ReadingRuns.taken_none, SpelledBytes.one_spelled}
+pub use Rattle.cif_extract.proofs.{SpelledBytes.spelled-refused, TakenLines.refused_so}
 unfoldable pub use Rattle.cif_extract.proofs.Names.{refusal_of}
 pub use Rattle.cif_extract.proofs.Names.{Aa, All-append, All-cons, All-head, All-nil, All-tail, AllFit, AllStandIn, AreExtract, AreSchedule}
 pub use Rattle.cif_extract.proofs.Names.{AreSchedules, AreWholeContentsAndRest, Association, Basic, BasicTerms, BodyLines, Bs}
@@ -72,7 +70,6 @@ pub use Rattle.cif_extract.proofs.Names.{take-append_seam, take_more, terms_of, 
 pub use Rattle.cif_extract.proofs.OneExtract.{Inside, further_inside, laid_out, one_extract, same_extract_parts, same_values}
 pub use Rattle.cif_extract.proofs.PlainTexts.{RecordFits, further-fit, further-lines, spelled-fits-by, text-spells}
 pub use Rattle.cif_extract.proofs.ReadCalls.{HandsOn, Makes, Refuses, answers, goes-on, hands-on, of_any, refuses}
-pub use Rattle.cif_extract.proofs.ReadingRuns.{taken_behind, taken_none}
 pub use Rattle.cif_extract.specs.{ReadFault.IsLineNumber, declared.extract.Schedule.Schedule, declared.fault.Clash.Clash}
 pub use Rattle.cif_extract.specs.{declared.reading.TakeFault.TakeFault, declared.reading.TakeFault.TheVariants.Refused}
 pub use Rattle.cif_extract.specs.Texts.{line_of_association, line_of_tiploc, rows_on}
@@ -89,15 +86,15 @@ pub use Rattle.cif_feed.specs.Changes.{AreAfter, AreRefused, ChangeParts, HaveLa
 pub use Rattle.cif_feed.specs.Changes.{is_changed, is_there, key_of, keyed_record, last_word, put_last, put_of, refusal, refusals}
 pub use Rattle.cif_feed.specs.Changes.{transaction_of, untouched, why_unfit, with_keys, without_key}
 pub use Rattle.cif_feed.specs.Counts.{counts_of, ends_open, has_holiday_code, is_deleted, is_new, is_revised, transaction_as}
-pub use Rattle.cif_feed.specs.CutCount.{AppliesOnAny, HasCut, IsCountOf}
-unfoldable pub use Rattle.cif_feed.specs.{Dropped.dropped_text, FeedRefusal.feed_refusal, Words.words_in, WrittenOver.with_columns}
-pub use Rattle.cif_feed.specs.Dropped.{AreClashDays, AreDropped, more_text}
-pub use Rattle.cif_feed.specs.FeedFault.{IsFailure, IsFeedFault, IsOfFeed, is_feed_read, reading_feed}
-pub use Rattle.cif_feed.specs.{FeedLayouts.feed_layouts, FromLines.ArePairs, FromLines.AreTriples, HolidayDates.IsDateOnDaysRun}
-pub use Rattle.cif_feed.specs.{HolidayDates.IsFirstFrom, HolidayText.words_of, Judged.judging, LastDay.last_day, Prepared.published_terms}
+pub use Rattle.cif_feed.specs.{CutCount.AppliesOnAny, CutCount.HasCut, CutCount.IsCountOf, Dropped.AreClashDays, Dropped.AreDropped}
+pub use Rattle.cif_feed.specs.{Dropped.more_text, FeedLayouts.feed_layouts, FeedRefusal.fault_for, FeedRefusal.not_full}
+pub use Rattle.cif_feed.specs.{FeedRefusal.untaken_fault, FromLines.ArePairs, FromLines.AreTriples, HolidayCode.all_codes}
+pub use Rattle.cif_feed.specs.{HolidayCode.code_in, HolidayCode.has_code, HolidayDates.IsDateOnDaysRun, HolidayDates.IsFirstFrom}
+pub use Rattle.cif_feed.specs.{HolidayText.words_of, Judged.judging, LastDay.last_day, Prepared.published_terms}
 pub use Rattle.cif_feed.specs.{PreparedDays.SayAsPublished, PreparedDays.SayOfDay, PublishedParts.published_text}
 pub use Rattle.cif_feed.specs.{PublishedParts.reading_published, RecordLines.notes_may_stand, RecordLines.record_lines}
-pub use Rattle.cif_feed.specs.{Steps.FeedReading.read_as, Steps.FeedReading.with_passed, Steps.Marks.with_mark}
+pub use Rattle.cif_feed.specs.{Steps.FeedReading.read_as, Steps.FeedReading.with_passed, Steps.HolidayReading.HasLineMore}
+pub use Rattle.cif_feed.specs.{Steps.HolidayReading.IsDateFault, Steps.HolidayReading.IsLineFault, Steps.Marks.with_mark}
 pub use Rattle.cif_feed.specs.{Transaction.transaction_letter, UpdateParts.tiploc_changes_of, UpdateParts.update_parts, Words.is_space}
 pub use Rattle.cif_feed.specs.{WrittenOver.with_code, WrittenOver.with_open_end, declared.changes.Action.Action}
 pub use Rattle.cif_feed.specs.{declared.changes.RecordChange.RecordChange, declared.changes.RefusedLine.RefusedLine}
@@ -105,20 +102,21 @@ pub use Rattle.cif_feed.specs.{declared.dropped.Dropped.Dropped, declared.droppe
 pub use Rattle.cif_feed.specs.{declared.feed_fault.FeedFault.FeedFault, declared.feed_line.Feed.Feed}
 pub use Rattle.cif_feed.specs.{declared.feed_line.Feed.TheVariants.Full, declared.feed_reading.FeedExtract.FeedExtract}
 pub use Rattle.cif_feed.specs.{declared.feed_reading.FeedReading.FeedReading, declared.holidays.HolidayCode.HolidayCode}
-pub use Rattle.cif_feed.specs.{declared.holidays.HolidayCodes.HolidayCodes, declared.holidays.Holidays.Holidays}
-pub use Rattle.cif_feed.specs.{declared.mark.LineMark.LineMark, declared.mark.RecordMark.RecordMark, declared.mark.TiplocMark.TiplocMark}
-pub use Rattle.cif_feed.specs.{declared.mark.Transaction.Transaction, declared.prepared_record.PreparedRecord.PreparedRecord}
-pub use Rattle.cif_feed.specs.{declared.prepared_record.RisingDays.RisingDays}
+pub use Rattle.cif_feed.specs.{declared.holidays.HolidayCode.TheVariants.E, declared.holidays.HolidayCode.TheVariants.G}
+pub use Rattle.cif_feed.specs.{declared.holidays.HolidayCode.TheVariants.X, declared.holidays.HolidayCodes.HolidayCodes}
+pub use Rattle.cif_feed.specs.{declared.holidays.Holidays.Holidays, declared.mark.LineMark.LineMark, declared.mark.RecordMark.RecordMark}
+pub use Rattle.cif_feed.specs.{declared.mark.TiplocMark.TiplocMark, declared.mark.Transaction.Transaction}
+pub use Rattle.cif_feed.specs.{declared.prepared_record.PreparedRecord.PreparedRecord, declared.prepared_record.RisingDays.RisingDays}
 pub use Rattle.cif_feed.specs.{declared.published_extract.PublishedAssociation.PublishedAssociation}
 pub use Rattle.cif_feed.specs.{declared.published_extract.PublishedExtract.PublishedExtract}
 pub use Rattle.cif_feed.specs.{declared.published_extract.PublishedSchedule.PublishedSchedule, declared.reasons.Reasons.Reasons}
+unfoldable pub use Rattle.cif_feed.specs.{Dropped.dropped_text, FeedRefusal.feed_refusal, Words.words_in, WrittenOver.with_columns}
+pub use Rattle.cif_feed.specs.FeedFault.{IsFailure, IsFeedFault, IsOfFeed, is_feed_read, reading_feed}
 pub use Rattle.cif_feed.specs.FeedLine.{IsClosedAt, IsDeletion, SpellsAssociationBy, SpellsBasicBy, SpellsInFeed, SpellsTiplocBy}
 pub use Rattle.cif_feed.specs.FeedLine.{cancels_in_feed, code_of, code_value, deleted_association_rows, deleted_basic_rows, deletes}
 pub use Rattle.cif_feed.specs.FeedLine.{end_value, if_allowed, indicator_of, is_open, letter_of, published_association_rows}
 pub use Rattle.cif_feed.specs.FeedLine.{published_basic_rows, put_association_rows, put_basic_front, put_basic_rows, transaction_at}
 pub use Rattle.cif_feed.specs.FeedRefusal.{IsFeedContent, IsFeedCut, IsFeedTruncated, IsFirstOfFeed, IsRefusedContent, NoneOfFeedRefused}
-pub use Rattle.cif_feed.specs.FeedRefusal.{fault_for, not_full, untaken_fault}
-pub use Rattle.cif_feed.specs.HolidayCode.{all_codes, code_in, has_code}
 pub use Rattle.cif_feed.specs.HolidayText.{AreCodeAndDates, AreHolidaysOf, AreRead, IsBadLine, IsDate, IsFirstBadLine, IsHolidayFault}
 pub use Rattle.cif_feed.specs.HolidayText.{IsHolidayLine, LineNames, LineSays, NamesDay, SomeLine, SpellHolidays, reading_holidays}
 pub use Rattle.cif_feed.specs.Holidays.{HasMore, IsHoliday, IsHolidayOn, Names, dates_of, holidays_of}
@@ -143,7 +141,6 @@ pub use Rattle.cif_feed.specs.Steps.Counting.{AreClashDatesOn, AreMerged, Counts
 pub use Rattle.cif_feed.specs.Steps.Dropping.{AreAllFound, AreFound, IsCutAt, IsKeyReported, IsReported, IsStopAmong, ReadsAssociations}
 pub use Rattle.cif_feed.specs.Steps.Dropping.{ReadsDates, ReadsTrains, days_in, days_with, published_by}
 pub use Rattle.cif_feed.specs.Steps.FeedReading.{HasTakenFeed, IsFeedTaken, IsMarkedTaken, IsNoteTaken, IsOwn, IsRecordTaken, IsStopTaken}
-pub use Rattle.cif_feed.specs.Steps.HolidayReading.{HasLineMore, IsDateFault, IsLineFault}
 pub use Rattle.cif_feed.specs.Steps.Judging.{HasJudged, IsFinished, IsInOrder, SomeHasReason}
 pub use Rattle.cif_feed.specs.Steps.Marks.{HasMarks, HaveRoom, IsClosed, header_behind, is_schedule_mark, is_trailer_mark}
 pub use Rattle.cif_feed.specs.Steps.Marks.{last_of_association, last_of_schedule, mark_of, one_if, plus_if, with_counts, with_line}
@@ -159,4 +156,3 @@ pub use Rattle.cif_feed.specs.Updated.{published_association_key, published_sche
 pub use Rattle.cif_feed.specs.WrittenPrepared.{AreDroppedIf, FeedWrites, IsDeviceOrMemory, IsPrepareFault, IsPreparedAs, IsPreparedText}
 pub use Rattle.cif_feed.specs.WrittenPrepared.{Prepares, WritesPrepared, codes_named, preparing}
 pub use Rattle.cif_feed.specs.declared.feed_fault.FeedFault.TheVariants.{AlreadyThere, BadTransaction, Extract, NotThere, NotUpdate}
-pub use Rattle.cif_feed.specs.declared.holidays.HolidayCode.TheVariants.{E, G, X}

@@ -4,10 +4,9 @@ use Rattle.cif_feed.proofs.Names.{IsPart, IsPrepared, IsStop, List, None, Option
 use Rattle.cif_feed.proofs.Names.{as_published, association_as_published, association_entries, association_entry, false, map, part_terms}
 use Rattle.cif_feed.proofs.Names.{published_associations, published_schedules, published_terms, refl, same_extract_parts, same_values}
 use Rattle.cif_feed.proofs.Names.{schedule_as_published, schedule_entries, schedule_entry, subst, sym, ℕ, ⊎_elim, ◌++◌, ◌+◌, ◌<◌, ◌↔◌, ◌∙◌}
-use Rattle.cif_feed.proofs.Names.{◌∷◌, ◌≡◌, ◌≤◌}
+use Rattle.cif_feed.proofs.{Names.◌∷◌, Names.◌≡◌, Names.◌≤◌, PartLists.parts-whole}
 use Rattle.cif_records.proofs.Associations.{same_association}
 use Rattle.cif_extract.proofs.Schedules.{same_schedule}
-use Rattle.cif_feed.proofs.PartLists.{parts-whole}
 
 -- ---- the one part of a record without a code
 

@@ -7,8 +7,7 @@ use Rattle.cif_feed.proofs.Names.{UpdateParts, [], all_codes, ap, append-nil, ap
 use Rattle.cif_feed.proofs.Names.{contents_of, false, inr, last_line, length, of_profile, published_lines, published_text, reading_update}
 use Rattle.cif_feed.proofs.Names.{refl, refused_header, reported_once, same_values, slice_get, subst, sym, true≢false, update_parts}
 use Rattle.cif_feed.proofs.Names.{updating, with_keys, ℕ, ⊎_elim, ◌++◌, ◌==◌, ◌↔◌, ◌∙◌, ◌∷◌, ◌≡◌, ◌≤◌}
-use Rattle.cif_feed.proofs.ChangeLaws.{after_all-alike, refusals-alike, same_alike}
-use Rattle.cif_feed.proofs.FittingUpdates.{updated_fits}
+use Rattle.cif_feed.proofs.{ChangeLaws.after_all-alike, ChangeLaws.refusals-alike, ChangeLaws.same_alike, FittingUpdates.updated_fits}
 use Rattle.cif_feed.proofs.PublishedTexts.{may_any, published-lines, published-spells, said_fits}
 use Rattle.cif_feed.proofs.SpelledFeeds.{one_published, one_update, spelled_first, update_blames_none}
 use Rattle.cif_feed.specs.UpdatesInTurn.{AreUpdatesDone, IsOneRefused, IsRefused, IsRefusedFor, IsWritten}

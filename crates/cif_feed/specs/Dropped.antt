@@ -6,10 +6,9 @@ use Rattle.cif_calendar.specs.Clash.{IsClear}
 use Rattle.cif_extract.specs.{Clash.clash_text, declared.fault.Clash.Clash}
 use Rattle.cif_extract.specs.declared.fault.Clash.TheVariants as clash
 use Rattle.cif_records.specs.{AssocKey.key_cmp, declared.association.AssocKey.AssocKey}
-use Rattle.cif_feed.specs.CutCount.{AppliesOnAny, IsCountOf}
-use Rattle.cif_feed.specs.Published.{CountOn, IsClashDay, PublishedTerms}
-use Rattle.cif_feed.specs.PublishedParts.{PublishedParts, published_associations, published_schedules}
-use Rattle.cif_feed.specs.declared.{dropped.Dropped.Dropped, dropped.DroppedKey.DroppedKey, holidays.Holidays.Holidays}
+use Rattle.cif_feed.specs.{CutCount.AppliesOnAny, CutCount.IsCountOf, Published.CountOn, Published.IsClashDay, Published.PublishedTerms}
+use Rattle.cif_feed.specs.{PublishedParts.PublishedParts, PublishedParts.published_associations, PublishedParts.published_schedules}
+use Rattle.cif_feed.specs.{declared.dropped.Dropped.Dropped, declared.dropped.DroppedKey.DroppedKey, declared.holidays.Holidays.Holidays}
 
 -- These are the clash days of key k, from `first` to the one before `to`, rising. On the other days the key is clear.
 pub record AreClashDays {K B : Type 0} (h : Holidays) (entries : List (K × PublishedTerms B)) (first to : ℕ) (k : K) (days : List ℕ)

@@ -3,8 +3,7 @@ use Rattle.std.specs.Prelude.{Bool, Err, IfErr, IfOk, List, None, Ok, Option, Re
 use Rattle.std.specs.List.{flat_map, list_any}
 use Rattle.cif_columns.specs.{Contents.contents_of, Sink.Writes, Sink.writer_of, Source.Unread, Source.reader_of}
 use Rattle.cif_columns.specs.declared.{line_reader.TheConstants.MAX_LINES, sink.Sink.Sink, source.Source.Source}
-use Rattle.cif_extract.specs.ReadCall.{IsResultOf, ReadCall, reading}
-use Rattle.cif_extract.specs.declared.fault.Fault.TheVariants.{Write}
+use Rattle.cif_extract.specs.{ReadCall.IsResultOf, ReadCall.ReadCall, ReadCall.reading, declared.fault.Fault.TheVariants.Write}
 use Rattle.cif_feed.specs.{Counts.counts_of, Counts.have_marks, FeedFault.is_feed_read, FeedFault.of_holiday_fault}
 use Rattle.cif_feed.specs.{FeedRefusal.IsFirstOfFeed, HolidayCode.all_codes, Holidays.Names, Updated.updating, UpdatesInTurn.IsRefused}
 use Rattle.cif_feed.specs.{UpdatesInTurn.IsWritten}

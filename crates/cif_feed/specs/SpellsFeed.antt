@@ -2,10 +2,9 @@
 use Rattle.std.specs.Prelude.{◌≡◌, ℕ, ◌<◌, ◌≤◌, true, List, [], All, length, slice_index_or, take}
 use Rattle.cif_columns.specs.Contents.{contents_of}
 use Rattle.cif_extract.specs.{ExtractParts.ExtractParts, ExtractParts.extract_parts, SpellsExtract.SpellExtractBy}
-use Rattle.cif_feed.specs.{FeedLine.SpellsInFeed, FeedRefusal.IsFeedContent}
-use Rattle.cif_feed.specs.Marks.{MarkParts, mark_parts, marks_in}
-use Rattle.cif_feed.specs.RecordLines.{is_note, notes_may_stand, record_lines}
-use Rattle.cif_feed.specs.declared.{feed_line.Feed.Feed, feed_reading.FeedExtract.FeedExtract, holidays.HolidayCodes.HolidayCodes}
+use Rattle.cif_feed.specs.{FeedLine.SpellsInFeed, FeedRefusal.IsFeedContent, Marks.MarkParts, Marks.mark_parts, Marks.marks_in}
+use Rattle.cif_feed.specs.{RecordLines.is_note, RecordLines.notes_may_stand, RecordLines.record_lines, declared.feed_line.Feed.Feed}
+use Rattle.cif_feed.specs.{declared.feed_reading.FeedExtract.FeedExtract, declared.holidays.HolidayCodes.HolidayCodes}
 
 -- what the lines of a feed say: the extract of their records, and what they say beyond these
 pub record FeedParts : Type 0 where

@@ -1,8 +1,7 @@
 -- Records of any kind: their columns, when a line spells one, its plain line, and the first reason to refuse a line as one.
 use Rattle.std.specs.Prelude.{◌≡◌, ℕ, List, Option, Some, None}
-use Rattle.cif_columns.specs.Field.{AllStandIn, Row, plain_line}
-use Rattle.cif_columns.specs.{Line.IsLine, declared.refusal.Refusal.Refusal, declared.refusal.Refusal.TheVariants.NotFull}
-use Rattle.cif_columns.specs.{declared.refusal.Refusal.TheVariants.UnknownRecord}
+use Rattle.cif_columns.specs.{Field.AllStandIn, Field.Row, Field.plain_line, Line.IsLine, declared.refusal.Refusal.Refusal}
+use Rattle.cif_columns.specs.{declared.refusal.Refusal.TheVariants.NotFull, declared.refusal.Refusal.TheVariants.UnknownRecord}
 use Rattle.cif_records.specs.{Association.association_refusal, Association.association_table, Basic.basic_refusal, Basic.basic_table}
 use Rattle.cif_records.specs.{Change.change_refusal, Change.change_table, Extra.extra_refusal, Extra.extra_table, Header.header_refusal}
 use Rattle.cif_records.specs.{Header.header_table, Kind.kind_in, Origin.origin_refusal, Origin.origin_table, Stop.stop_refusal}

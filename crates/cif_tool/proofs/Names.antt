@@ -4,9 +4,8 @@ pub use Rattle.std.proofs.Common.{Result, Some, [], ap, append-nil, ap₂, codes
 pub use Rattle.std.proofs.Common.{string_bytes, subst, sym, true, true≢false, ℕ, ⊎_elim, ◌++◌, ◌+◌, ◌<◌, ◌||◌, ◌↔◌, ◌∙◌, ◌∷◌, ◌≡◌, ◌≢◌, ◌≤◌}
 pub use Rattle.std.proofs.Common.{◌⊎◌}
 pub use Rattle.clap.proofs.WalkLemmas.{first_value-rows, raw_values-rows}
-pub use Rattle.clap.specs.Simple.{app_of_fields}
+pub use Rattle.clap.specs.{Simple.app_of_fields, Words.subcommand_of, Words.with_rule, Words.with_subcommand}
 pub use Rattle.clap.specs.Words.{AddsArg, App, FailsBy, Text, app_of, fault_of, found_of, is_simple, is_simple_and_free, new_app, rule_of}
-pub use Rattle.clap.specs.Words.{subcommand_of, with_rule, with_subcommand}
 pub use Rattle.cif_columns.specs.declared.line_reader.TheConstants.{MAX_LINES}
 pub use Rattle.cif_extract.specs.ReadCall.{ReadCall}
 pub use Rattle.cif_feed.proofs.Names.{BytesSpellWithin, Clash, ExtractParts, HasFailed, HasWritten, HaveReasons, IfOk-weaker, IsJudgedFault}
@@ -31,6 +30,5 @@ pub use Rattle.cif_tool.specs.Answer.{IsDiffAnswer, IsExplainAnswer, IsExplainRe
 pub use Rattle.cif_tool.specs.Answer.{TrainJob, answering, answering_all, canonical_text, differences_in}
 unfoldable pub use Rattle.cif_tool.specs.CommandLine.{chosen, cif, faults_of}
 pub use Rattle.cif_tool.specs.CommandLine.{IsCommand, Parts, argument, given, program, subcommands, taken, taking, with_subcommands}
-pub use Rattle.cif_tool.specs.JobFault.{Explains, IsFaultAt, NamesNoDay}
-pub use Rattle.cif_tool.specs.Status.{ReportsFault, listed_status, outcome_of}
-pub use Rattle.cif_tool.specs.declared.command_line.Argument.TheVariants.{Verbose}
+pub use Rattle.cif_tool.specs.{JobFault.Explains, JobFault.IsFaultAt, JobFault.NamesNoDay, Status.ReportsFault, Status.listed_status}
+pub use Rattle.cif_tool.specs.{Status.outcome_of, declared.command_line.Argument.TheVariants.Verbose}

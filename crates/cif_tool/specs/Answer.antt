@@ -8,17 +8,16 @@ use Rattle.cif_extract.specs.ReadFault.{IsReadFault, is_read, reading_extract}
 use Rattle.cif_extract.specs.declared.{extract.Extract.Extract, fault.Clash.Clash, fault.Fault.Fault}
 use Rattle.cif_extract.specs.declared.fault.Fault.TheVariants.{Memory, Read, Refused, Write}
 use Rattle.cif_feed.specs.{FeedAnswer.IsHandedOn, Judged.IsJudgedFault, Judged.NoneHasReason, Reasons.reasons_in, Reasons.reasons_text}
-use Rattle.cif_canon.specs.{Accepted.SpellsNarrowed, Canon.CanonParts, Counts.counts_line, Lines.lines_of, Normalised.FaultWrites}
-use Rattle.cif_canon.specs.{Normalised.IsNormalised, Views.IsDayFault}
+use Rattle.cif_canon.specs.{Accepted.SpellsNarrowed, Canon.CanonParts, Comparison.AreCompared, Comparison.IsCompareFault}
+use Rattle.cif_canon.specs.{Comparison.comparison_line, Counts.counts_line, Fault.IsNormaliseFault, Fault.IsOfNormalise}
+use Rattle.cif_canon.specs.{Fault.IsReadNarrowedFault, Lines.lines_of, Normalised.FaultWrites, Normalised.IsNormalised, Pair.AreNarrowed}
+use Rattle.cif_canon.specs.{Pair.IsNarrowedPair, Pair.SpellPair, Views.IsDayFault, declared.asked.Asked.Asked}
+use Rattle.cif_canon.specs.{declared.canonical_form.Counts.Counts, declared.comparison.Comparison.Comparison, declared.rows.Format.Format}
+use Rattle.cif_canon.specs.{declared.rows.Format.TheVariants.Text, declared.rows.Format.TheVariants.Tsv}
 use Rattle.cif_views.specs.{Clashes.AreAllClashes, Clashes.clashes_text, DifferenceTable.difference_table, Explanation.IsExplanation}
 use Rattle.cif_views.specs.{Explanation.IsExplanationFault, Listing.IsDayListing, Listing.IsTrainListing, TableText.table_text}
 use Rattle.cif_views.specs.{WeekCalendar.IsWeekCalendar}
-use Rattle.cif_canon.specs.Comparison.{AreCompared, IsCompareFault, comparison_line}
 use Rattle.cif_canon.specs.Differences.{AreDifferences, AreNone, DifferencesParts, differences_text}
-use Rattle.cif_canon.specs.Fault.{IsNormaliseFault, IsOfNormalise, IsReadNarrowedFault}
-use Rattle.cif_canon.specs.Pair.{AreNarrowed, IsNarrowedPair, SpellPair}
-use Rattle.cif_canon.specs.declared.{asked.Asked.Asked, canonical_form.Counts.Counts, comparison.Comparison.Comparison, rows.Format.Format}
-use Rattle.cif_canon.specs.declared.{rows.Format.TheVariants.Text, rows.Format.TheVariants.Tsv}
 use Rattle.cif_tool.{specs.Status.outcome_of, specs.declared.job.Job.TheVariants.Train}
 pub use Rattle.cif_tool.specs.declared.{job.CalendarJob.CalendarJob, job.CanonicalJob.CanonicalJob, job.CompareJob.CompareJob}
 pub use Rattle.cif_tool.specs.declared.{job.DayJob.DayJob, job.ExplainJob.ExplainJob, job.TrainJob.TrainJob}

@@ -26,14 +26,12 @@ pub use Rattle.cif_extract.proofs.PlainTexts.{RecordFits, further-fit, further-l
 pub use Rattle.cif_extract.specs.declared.{call.Call.Call, call.Call.TheVariants.At, call.Call.TheVariants.Turn}
 pub use Rattle.cif_calendar.proofs.Names.{All-permutation, AreDayStates, IsClear, IsDayState, IsFirstClashOf, IsPermutation-map, Wins}
 pub use Rattle.cif_calendar.proofs.Names.{get_or-map, precedence, range_with_len, ranks_by, sorted_far, tied_itself}
-pub use Rattle.cif_calendar.specs.AllClashes.{AreAllClashes, association_clash, train_clash}
-pub use Rattle.cif_calendar.specs.{Clashes.AreClashes, Entries.association_terms, Entries.schedule_terms}
-pub use Rattle.cif_calendar.specs.declared.day_state.DayState.{DayState}
+pub use Rattle.cif_calendar.specs.{AllClashes.AreAllClashes, AllClashes.association_clash, AllClashes.train_clash, Clashes.AreClashes}
+pub use Rattle.cif_calendar.specs.{Entries.association_terms, Entries.schedule_terms, declared.day_state.DayState.DayState}
 pub use Rattle.cif_weeks.proofs.Names.{AllWithin, IsAlignedTwo, at-contains, contains-at, week_of}
 pub use Rattle.cif_canon.proofs.AppendedTexts.{all-items, answered, both, fault-answered}
-pub use Rattle.cif_canon.proofs.ByPairs.{associations-by_pairs, same-keys, schedules-by_pairs}
-pub use Rattle.cif_canon.proofs.{MergedSides.from-side, MergedSides.side-member, Unique.extracts-unique, Unique.keys-total}
-pub use Rattle.cif_canon.proofs.{ViewTexts.written-so}
+pub use Rattle.cif_canon.proofs.{ByPairs.associations-by_pairs, ByPairs.same-keys, ByPairs.schedules-by_pairs, MergedSides.from-side}
+pub use Rattle.cif_canon.proofs.{MergedSides.side-member, Unique.extracts-unique, Unique.keys-total, ViewTexts.written-so}
 unfoldable pub use Rattle.cif_canon.proofs.Names.{long_date}
 pub use Rattle.cif_canon.proofs.Names.{All-cons, All-contains, All-drop, All-filter, All-head, All-nil, All-tail, All-take, AllFit}
 pub use Rattle.cif_canon.proofs.Names.{AllPairs-map, AreByPairs, AreClear, AreDifferences, AreDifferentRecords, AreDifferentTiplocs}

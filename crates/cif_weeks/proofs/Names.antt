@@ -14,7 +14,9 @@ pub use Rattle.std.specs.{List.Sorted.IsNonDecreasingBy, List.Sorted.IsPartition
 pub use Rattle.cif_columns.proofs.Names.{All-append, All-cons, All-head, All-tail, IsDay, IsFirstOf, IsLastOf, reverse-append}
 pub use Rattle.cif_columns.proofs.Names.{reverse-reverse, take-append_seam}
 pub use Rattle.cif_columns.specs.Day.{week_of}
-pub use Rattle.cif_calendar.proofs.Elements.{Contains-cases, Contains-first, Contains-rest}
+pub use Rattle.cif_calendar.proofs.{Elements.Contains-cases, Elements.Contains-first, Elements.Contains-rest, PieceLists.source_at-piece}
+pub use Rattle.cif_calendar.proofs.{PieceLists.tiles-ends, PieceLists.tiles-from, Positions.AreLawful-chosen, Positions.at-contains}
+pub use Rattle.cif_calendar.proofs.{Positions.contains-at, Winning.terms_at}
 pub use Rattle.cif_calendar.proofs.Names.{All-contains, All-nil, All-take, AreClear, AreLawful, BodyRuns, CalendarParts}
 pub use Rattle.cif_calendar.proofs.Names.{Contains-append_cases, Contains-append_left, Contains-append_right, Contains-get_or}
 pub use Rattle.cif_calendar.proofs.Names.{Contains-permutation, Contains-push, Contains-push_cases, IfOk-weaker, IsCalendar, IsChosen}
@@ -22,10 +24,7 @@ pub use Rattle.cif_calendar.proofs.Names.{IsClearFrom, IsPartitionPoint-from_cla
 pub use Rattle.cif_calendar.proofs.Names.{Terms, Tiles, Wins, body_at, body_on, cases_lt, drop_all, drop_more, get_or-append_seam}
 pub use Rattle.cif_calendar.proofs.Names.{get_or_default, get_or_from_slice_get, iff_false, length-map, letter, nat_tests, of_key}
 pub use Rattle.cif_calendar.proofs.Names.{same_Some, slice_get-get_or, slice_get_within, source_at, take_more, weekday_of, winner_of}
-pub use Rattle.cif_calendar.proofs.PieceLists.{source_at-piece, tiles-ends, tiles-from}
-pub use Rattle.cif_calendar.proofs.Positions.{AreLawful-chosen, at-contains, contains-at}
 pub use Rattle.cif_calendar.proofs.RisingLists.{AllPairs-members, Contains-none, IsOneWay, less_one_way, not_less, same_members}
-pub use Rattle.cif_calendar.proofs.Winning.{terms_at}
 pub use Rattle.cif_calendar.specs.{Applies.IsAmongDates, declared.key_calendar.Piece.Piece}
 pub use Rattle.cif_weeks.specs.Aligned.{IsAligned, IsAlignedOne, IsAlignedTwo}
 pub use Rattle.cif_weeks.specs.{Applies.IsWeekOf, HaveForm.HaveForm, Meets.Meets, WhatRuns.SayTheSame, WhatRuns.SayWhatRuns}

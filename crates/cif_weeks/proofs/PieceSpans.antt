@@ -6,8 +6,7 @@ use Rattle.cif_weeks.proofs.Names.{IsWinnerOn, List, None, P, Piece, RunsOn, Som
 use Rattle.cif_weeks.proofs.Names.{cases_lt, drop, drop_more, get_or, get_or_from_slice_get, inl, inr, length, refl, slice_get}
 use Rattle.cif_weeks.proofs.Names.{slice_get-get_or, slice_get_within, source_in, subst, sym, tiles-ends, week_of, weekday_of, winner_of, ℕ}
 use Rattle.cif_weeks.proofs.Names.{⊎_elim, ◌++◌, ◌+◌, ◌-◌, ◌<◌, ◌↔◌, ◌∙◌, ◌∷◌, ◌≡◌, ◌≤◌, ◌⊎◌}
-use Rattle.cif_weeks.proofs.Growth.{body-source, has-below, source-body}
-use Rattle.cif_weeks.proofs.SourcesIn.{source_in-piece}
+use Rattle.cif_weeks.proofs.{Growth.body-source, Growth.has-below, Growth.source-body, SourcesIn.source_in-piece}
 
 -- a piece of the calendar
 pub record IsPieceOf (c : CalendarParts) (p : Piece) : Type 0 where

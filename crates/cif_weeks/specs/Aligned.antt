@@ -1,7 +1,6 @@
 -- The dates and the mask of a record fit each other and the window.
 use Rattle.std.specs.Prelude.{◌≡◌, ℕ, ◌≤◌, Bool, List, length}
-use Rattle.cif_columns.specs.Day.{week_of, weekday_of}
-use Rattle.cif_columns.specs.DaysRun.{RunsOn, IsFirstOf, IsLastOf}
+use Rattle.cif_columns.specs.{Day.week_of, Day.weekday_of, DaysRun.IsFirstOf, DaysRun.IsLastOf, DaysRun.RunsOn}
 use Rattle.cif_weeks.specs.declared.{form.Form.Form, form.Form.TheVariants.One, form.Form.TheVariants.Two}
 use Rattle.cif_weeks.specs.{Applies.Applies, Permanent.Permanent, Window.IsWithin, Window.Window}
 

@@ -1,9 +1,8 @@
 -- The canonical records of all keys, as runs. No public clause cites them.
 use Rattle.std.specs.Prelude.{◌≡◌, ℕ, ◌<◌, List, Some, ⊤, ◌↔◌, AllPairs, Contains, slice_get}
 use Rattle.std.specs.{List.AllZip, declared.cmp.Ordering.Ordering}
-use Rattle.cif_calendar.specs.{Clash.IsClearFrom, Clash.IsFirstClash, Meaning.EntriesSayTheSame, Runs.BodyRuns, Terms.Terms}
-use Rattle.cif_calendar.specs.Keys.{of_key, AreClear, IsFirstClashOf}
-use Rattle.cif_calendar.specs.declared.key_calendar.CalendarFault.{CalendarFault}
+use Rattle.cif_calendar.specs.{Clash.IsClearFrom, Clash.IsFirstClash, Keys.AreClear, Keys.IsFirstClashOf, Keys.of_key}
+use Rattle.cif_calendar.specs.{Meaning.EntriesSayTheSame, Runs.BodyRuns, Terms.Terms, declared.key_calendar.CalendarFault.CalendarFault}
 use Rattle.cif_calendar.specs.declared.key_calendar.CalendarFault.TheVariants as calendar
 use Rattle.cif_extract.specs.declared.{fault.Clash.Clash, fault.Fault.Fault}
 use Rattle.cif_extract.specs.declared.fault.Fault.TheVariants as fault

@@ -2,12 +2,11 @@
 use Rattle.std.specs.Prelude.{Bool, Err, IfSome, List, None, Ok, Option, Result, Some, [], false, is_some, map, refl, true, ℕ, ◌++◌, ◌∷◌}
 use Rattle.std.specs.Prelude.{◌≡◌, ◌≢◌, ◌⊎◌}
 use Rattle.cif_columns.specs.{Field.AllStandIn, Field.plain_line, Line.IsLine, declared.refusal.Refusal.Refusal}
-use Rattle.cif_extract.specs.Body.{BodyLines, KeepAll, body_tables}
-use Rattle.cif_extract.specs.{BodyParts.extra_records, Call.call_record, ExtractParts.ExtractParts, OrderOfRecords.after_extra}
-use Rattle.cif_extract.specs.{OrderOfRecords.may_stand}
+use Rattle.cif_extract.specs.{Body.BodyLines, Body.KeepAll, Body.body_tables, BodyParts.extra_records, Call.call_record}
+use Rattle.cif_extract.specs.{ExtractParts.ExtractParts, OrderOfRecords.after_extra, OrderOfRecords.may_stand, declared.call.Call.Call}
+use Rattle.cif_extract.specs.{declared.extract.Schedule.Schedule, declared.fault.Fault.Fault, declared.place.Place.Place}
+use Rattle.cif_extract.specs.{declared.reading.Reading.Reading, declared.reading.TakeFault.TakeFault}
 use Rattle.cif_extract.specs.Grammar.{AreExtract, AreSchedules, HasTerms, records_before_trailer}
-use Rattle.cif_extract.specs.declared.{call.Call.Call, extract.Schedule.Schedule, fault.Fault.Fault, place.Place.Place}
-use Rattle.cif_extract.specs.declared.{reading.Reading.Reading, reading.TakeFault.TakeFault}
 use Rattle.cif_extract.specs.declared.fault.Fault.TheVariants as fault
 use Rattle.cif_extract.specs.declared.place.Place.TheVariants as at
 use Rattle.cif_extract.specs.declared.reading.TakeFault.TheVariants as untaken

@@ -2,8 +2,7 @@
 use Rattle.std.specs.Prelude.{ℕ, List, [], ◌∷◌, ◌++◌}
 use Rattle.std.specs.List.{flat_map}
 use Rattle.cif_columns.specs.{Contents.lines_text, Field.plain_line}
-use Rattle.cif_extract.specs.Texts.{line_of_association, line_of_tiploc, plain_lines_of}
-use Rattle.cif_extract.specs.declared.extract.Schedule.{Schedule}
+use Rattle.cif_extract.specs.{Texts.line_of_association, Texts.line_of_tiploc, Texts.plain_lines_of, declared.extract.Schedule.Schedule}
 use Rattle.cif_records.specs.{Header.header_table, Trailer.trailer_table}
 use Rattle.cif_records.specs.declared.{association.Association.Association, header.Header.Header, tiploc.Tiploc.Tiploc}
 use Rattle.cif_feed.specs.{PreparedParts.association_on, PreparedParts.schedule_on, PublishedParts.published_association_line}

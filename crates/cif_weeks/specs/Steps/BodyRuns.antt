@@ -1,10 +1,9 @@
 -- Steps to the runs of few records: those of one body, week by week. No public clause cites them.
 use Rattle.std.specs.Prelude.{◌≡◌, ◌≢◌, ℕ, ◌+◌, ◌<◌, ◌≤◌, ◌++◌, List, [], ◌∷◌, AllPairs, Contains, reverse}
 use Rattle.cif_columns.specs.{Day.week_of, declared.stp.Stp.TheVariants.C}
-use Rattle.cif_weeks.specs.declared.{form.Form.Form, form.Run.Run, span.Span.Span, span.Weeks.Weeks}
-use Rattle.cif_weeks.specs.{Permanent.Permanent, Runs.record_of, Steps.Growing.Breaks, Steps.Growing.IsGrown, Window.IsWithin}
-use Rattle.cif_weeks.specs.{Window.Window}
-use Rattle.cif_weeks.specs.Steps.Spans.{HaveOneMask, IsAgreed, Shows}
+use Rattle.cif_weeks.specs.{Permanent.Permanent, Runs.record_of, Steps.Growing.Breaks, Steps.Growing.IsGrown, Steps.Spans.HaveOneMask}
+use Rattle.cif_weeks.specs.{Steps.Spans.IsAgreed, Steps.Spans.Shows, Window.IsWithin, Window.Window, declared.form.Form.Form}
+use Rattle.cif_weeks.specs.{declared.form.Run.Run, declared.span.Span.Span, declared.span.Weeks.Weeks}
 
 -- the dates and the mask of a run as those of a record, with the run's source as the body
 abbrev pub dates_of : Run → Permanent ℕ

@@ -1,6 +1,5 @@
 -- The states of the stretches so far stand.
-use Rattle.cif_calendar.proofs.Names.{AreDayStates, IsChosen, drop}
-use Rattle.cif_calendar.proofs.DayStates.{IsMadeOf}
+use Rattle.cif_calendar.proofs.{DayStates.IsMadeOf, Names.AreDayStates, Names.IsChosen, Names.drop}
 use Rattle.cif_calendar.proofs.day_state.states_of.Given as goal
 
 abbrev pub invariant-loop-stretch : goal.invariant-loop-stretch

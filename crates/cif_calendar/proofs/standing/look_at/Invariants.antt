@@ -1,6 +1,5 @@
 -- The weekdays before `weekday` are looked at; the others are as they were.
-use Rattle.cif_calendar.proofs.Names.{AreAlike, LooksAt, length}
-use Rattle.cif_calendar.proofs.Standings.{AreStepped}
+use Rattle.cif_calendar.proofs.{Names.AreAlike, Names.LooksAt, Names.length, Standings.AreStepped}
 use Rattle.cif_calendar.proofs.standing.look_at.Given as goal
 
 abbrev pub invariant-loop-weekday : goal.invariant-loop-weekday

@@ -1,6 +1,5 @@
 -- The second one is narrowed behind the first, or it is to blame.
-use Rattle.cif_canon.proofs.Names.{extract_parts}
-use Rattle.cif_canon.proofs.ReadPairs.{both-narrowed, left-refused, right-refused}
+use Rattle.cif_canon.proofs.{Names.extract_parts, ReadPairs.both-narrowed, ReadPairs.left-refused, ReadPairs.right-refused}
 use Rattle.cif_canon.proofs.asked.narrow_both.Goals as goal
 
 pub returns-in_err-narrow : goal.returns-in_err-narrow

@@ -1,8 +1,7 @@
 -- The text is a fold over runs with their numbers: one more goes behind it (`one-more`). Each run has a record.
 use Rattle.cif_canon.proofs.Names.{HasRecord, ap, arith, enumerate_from, length-enumerate_from, numbered_text, schedule_entries}
 use Rattle.cif_canon.proofs.Names.{schedule_plain, subst, sym, text_if, ◌+◌}
-use Rattle.cif_canon.proofs.AppendedTexts.{all-items, one-more, text-is}
-use Rattle.cif_canon.proofs.CanonLines.{at-number}
+use Rattle.cif_canon.proofs.{AppendedTexts.all-items, AppendedTexts.one-more, AppendedTexts.text-is, CanonLines.at-number}
 use Rattle.cif_canon.proofs.canon_lines.list_runs.Goals as goal
 
 pub record_of-requires : goal.record_of-requires

@@ -1,7 +1,6 @@
 -- The mark and then the line with its line feed are the marked text (`marked-line`).
 use Rattle.cif_canon.proofs.Names.{[], ap, ◌++◌, ◌∙◌, ◌∷◌}
-use Rattle.cif_canon.proofs.AppendedTexts.{appended, both, text-is}
-use Rattle.cif_canon.proofs.MarkedTexts.{marked-line}
+use Rattle.cif_canon.proofs.{AppendedTexts.appended, AppendedTexts.both, AppendedTexts.text-is, MarkedTexts.marked-line}
 use Rattle.cif_canon.proofs.difference_lines.write_marked.Goals as goal
 
 pub returns : goal.returns

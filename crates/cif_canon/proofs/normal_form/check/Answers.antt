@@ -1,6 +1,5 @@
 -- The counts are those of the canonical form (`counts`).
-use Rattle.cif_canon.proofs.Names.{Ok, goes-on, hands-on}
-use Rattle.cif_canon.proofs.Normalising.{counts, counts-canon}
+use Rattle.cif_canon.proofs.{Names.Ok, Names.goes-on, Names.hands-on, Normalising.counts, Normalising.counts-canon}
 use Rattle.cif_canon.proofs.normal_form.check.Goals as goal
 
 pub returns-in_err-read_canon : goal.returns-in_err-read_canon

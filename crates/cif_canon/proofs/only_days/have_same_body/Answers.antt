@@ -1,6 +1,5 @@
 -- A source with a body is the position of an entry (`bodied-within`), and the body is that entry's (`body-there`).
-use Rattle.cif_canon.proofs.Names.{arith}
-use Rattle.cif_canon.proofs.DifferentDays.{bodied-within, body-there, same-bodies}
+use Rattle.cif_canon.proofs.{DifferentDays.bodied-within, DifferentDays.body-there, DifferentDays.same-bodies, Names.arith}
 use Rattle.cif_canon.proofs.only_days.have_same_body.Goals as goal
 
 pub bounds-left-i : goal.bounds-left-i

@@ -1,6 +1,5 @@
 -- The pieces so far cover the days before `first`, and have what is left of them; what is left of the window gets shorter.
-use Rattle.cif_canon.proofs.Names.{map, ◌-◌, ◌≤◌}
-use Rattle.cif_canon.proofs.OnlyDays.{AreOnlyPieces}
+use Rattle.cif_canon.proofs.{Names.map, Names.◌-◌, Names.◌≤◌, OnlyDays.AreOnlyPieces}
 use Rattle.cif_canon.proofs.only_days.only_calendar.Given as goal
 
 abbrev pub invariant-loop-pieces : goal.invariant-loop-pieces

@@ -1,6 +1,5 @@
 -- What is left of the calendar's sources are sources, and its runs those of what only it says (`only-runs`).
-use Rattle.cif_canon.proofs.Names.{IfOk-weaker, map}
-use Rattle.cif_canon.proofs.OnlyRuns.{only-runs, only-sources, rising-runs}
+use Rattle.cif_canon.proofs.{Names.IfOk-weaker, Names.map, OnlyRuns.only-runs, OnlyRuns.only-sources, OnlyRuns.rising-runs}
 use Rattle.cif_canon.proofs.only_days.only_runs.Goals as goal
 
 pub runs-requires : goal.runs-requires

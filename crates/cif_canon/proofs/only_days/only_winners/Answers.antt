@@ -1,7 +1,6 @@
 -- One day more sets its weekday's winner (`only-step`); after seven days each weekday was seen (`only-week`).
 use Rattle.cif_canon.proofs.Names.{None, ap, arith, get_or, length-set, map, sym, weekday_of, ◌+◌, ◌∙◌, ◌≡◌}
-use Rattle.cif_canon.proofs.DifferentDays.{not-below}
-use Rattle.cif_canon.proofs.OnlyDays.{only-last, only-step, only-week}
+use Rattle.cif_canon.proofs.{DifferentDays.not-below, OnlyDays.only-last, OnlyDays.only-step, OnlyDays.only-week}
 use Rattle.cif_canon.proofs.only_days.only_winners.Goals as goal
 
 pub only_source-winner-requires-clause-left : goal.only_source-winner-requires-clause-left

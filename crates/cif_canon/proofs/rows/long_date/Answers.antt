@@ -1,6 +1,5 @@
 -- The digits are those of the columns (`date-is`), and can be shown if they can (`printable-date`).
-use Rattle.cif_canon.proofs.Names.{ArePrintable, subst, sym}
-use Rattle.cif_canon.proofs.ViewLines.{date-is, printable-date}
+use Rattle.cif_canon.proofs.{Names.ArePrintable, Names.subst, Names.sym, ViewLines.date-is, ViewLines.printable-date}
 use Rattle.cif_canon.proofs.rows.long_date.Goals as goal
 
 pub returns-clause-text : goal.returns-clause-text

@@ -1,6 +1,5 @@
 -- Two groups of fields go behind the first field (`two-groups`): they are rewritten from the last on.
-use Rattle.cif_canon.proofs.Names.{[], journey_fields, ◌∷◌}
-use Rattle.cif_canon.proofs.ViewLines.{two-groups}
+use Rattle.cif_canon.proofs.{Names.[], Names.journey_fields, Names.◌∷◌, ViewLines.two-groups}
 use Rattle.cif_canon.proofs.rows.schedule_row.Goals as goal
 
 pub returns-clause-text : goal.returns-clause-text

@@ -1,6 +1,5 @@
 -- Laws of all extracts, by induction over tables: what lines spell fits, and the text of what fits spells it (`PlainTexts`).
-use Rattle.cif_extract.proofs.Names.{contents_of}
-use Rattle.cif_extract.proofs.PlainTexts.{spelled-fits, text-lines, text-spells}
+use Rattle.cif_extract.proofs.{Names.contents_of, PlainTexts.spelled-fits, PlainTexts.text-lines, PlainTexts.text-spells}
 use Rattle.cif_extract.proofs.laws.texts_spell_their_extracts.Goals as goal
 
 pub returns-clause-fits : goal.returns-clause-fits

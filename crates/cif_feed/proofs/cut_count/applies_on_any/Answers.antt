@@ -1,7 +1,6 @@
 -- It applies on none of the dates: no date before its first or after its last is one of its own (`passed`).
-use Rattle.cif_feed.proofs.PartLists.{gt-after, left-contains, passed}
+use Rattle.cif_feed.proofs.{Names.◌<◌, Names.◌∙◌, Names.◌≡◌, PartLists.gt-after, PartLists.left-contains, PartLists.passed}
 use Rattle.cif_feed.proofs.Names.{AppliesAsPublished, arith, cases_lt, ended, false≢true, get_or, get_or_read, refl, subst, sym, ℕ, ⊎_elim}
-use Rattle.cif_feed.proofs.Names.{◌<◌, ◌∙◌, ◌≡◌}
 use Rattle.cif_feed.proofs.cut_count.applies_on_any.Goals as goal
 
 pub returns-then-gt : goal.returns-then-gt

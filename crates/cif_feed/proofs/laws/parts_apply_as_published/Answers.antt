@@ -1,6 +1,5 @@
 -- One way the parts cover the days without a cut, and the other way they have no cut.
-use Rattle.cif_feed.proofs.Names.{All-contains, IsPart, IsStop}
-use Rattle.cif_feed.proofs.{PartLists.listed-part}
+use Rattle.cif_feed.proofs.{Names.All-contains, Names.IsPart, Names.IsStop, PartLists.listed-part}
 use Rattle.cif_feed.proofs.laws.parts_apply_as_published.Goals as goal
 
 pub returns-clause-all : goal.returns-clause-all

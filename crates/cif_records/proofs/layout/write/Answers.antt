@@ -1,6 +1,5 @@
 -- Over any table: the trait's `whole` says that its rows fill the line.
-use Rattle.cif_records.proofs.Names.{◌∙◌}
-use Rattle.cif_records.proofs.FinishedLines.{finished_again, finished_plain, finished_width}
+use Rattle.cif_records.proofs.{FinishedLines.finished_again, FinishedLines.finished_plain, FinishedLines.finished_width, Names.◌∙◌}
 use Rattle.cif_records.proofs.layout.write.Goals as goal
 
 pub finish-requires : goal.finish-requires

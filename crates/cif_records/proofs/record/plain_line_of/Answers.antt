@@ -1,6 +1,5 @@
 -- A line spells one record at most, so whichever it spells has the plain line that was answered (`only_plain`).
-use Rattle.cif_records.proofs.Names.{Err, Ok, ◌∙◌}
-use Rattle.cif_records.proofs.Records.{only_plain, refusal-kind}
+use Rattle.cif_records.proofs.{Names.Err, Names.Ok, Names.◌∙◌, Records.only_plain, Records.refusal-kind}
 use Rattle.cif_records.proofs.record.plain_line_of.Goals as goal
 
 pub returns-in-Ok-clause-exact : goal.returns-in-Ok-clause-exact

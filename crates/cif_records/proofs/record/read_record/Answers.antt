@@ -1,7 +1,6 @@
 -- `only`: a line spells one record (`one_record`, by its kind), and none where there is a reason to refuse it (`no_refusal`).
 use Rattle.cif_records.proofs.Names.{IsJudged, SpellsRecord, subst, sym, ◌∙◌}
-use Rattle.cif_records.proofs.Judging.{only}
-use Rattle.cif_records.proofs.Records.{no_refusal, one_record, refusal-kind}
+use Rattle.cif_records.proofs.{Judging.only, Records.no_refusal, Records.one_record, Records.refusal-kind}
 use Rattle.cif_records.proofs.record.read_record.Goals as goal
 
 pub returns-in-Some-clause-exact : goal.returns-in-Some-clause-exact

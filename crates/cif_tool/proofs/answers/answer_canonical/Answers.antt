@@ -1,7 +1,6 @@
 -- What is written is an answer (`canonical-answer`); a fault is that of reading the canonical form, or Write.
 use Rattle.cif_tool.proofs.Names.{IsNormaliseFault, MAX_LINES, canonical_text, reading_canon, refl}
-use Rattle.cif_tool.proofs.Answered.{may-check, not-answered, text-shown}
-use Rattle.cif_tool.proofs.KnownAnswers.{canonical-answer}
+use Rattle.cif_tool.proofs.{Answered.may-check, Answered.not-answered, Answered.text-shown, KnownAnswers.canonical-answer}
 use Rattle.cif_tool.proofs.answers.answer_canonical.Goals as goal
 
 pub returns-in_err-canon : goal.returns-in_err-canon

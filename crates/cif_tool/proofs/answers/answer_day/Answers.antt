@@ -1,7 +1,6 @@
 -- What the listing writes is an answer (`day-answer`). `view`: of the extract that was read, which is kept.
 use Rattle.cif_tool.proofs.Names.{IsDayFault, IsDayRefusal, MAX_LINES, extract_parts, inl, inr, reading_extract, refl, subst}
-use Rattle.cif_tool.proofs.Answered.{may-read, not-answered, view-shown}
-use Rattle.cif_tool.proofs.KnownAnswers.{day-answer, day-may}
+use Rattle.cif_tool.proofs.{Answered.may-read, Answered.not-answered, Answered.view-shown, KnownAnswers.day-answer, KnownAnswers.day-may}
 use Rattle.cif_tool.proofs.answers.answer_day.Goals as goal
 
 pub returns-in_err-extract : goal.returns-in_err-extract

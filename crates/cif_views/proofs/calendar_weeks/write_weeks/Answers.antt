@@ -1,8 +1,7 @@
 -- One week more goes behind the others (`range-push`).
 use Rattle.cif_views.proofs.Names.{IsAppended, List, ap, arith, flat_map, range_with_len, state_in, subst, sym, week_line, week_of, ℕ, ◌+◌}
-use Rattle.cif_views.proofs.Names.{◌-◌, ◌∙◌, ◌≡◌}
+use Rattle.cif_views.proofs.{Names.◌-◌, Names.◌∙◌, Names.◌≡◌, WeekLines.range-push}
 use Rattle.cif_canon.proofs.AppendedTexts.{behind}
-use Rattle.cif_views.proofs.WeekLines.{range-push}
 use Rattle.cif_views.proofs.calendar_weeks.write_weeks.Goals as goal
 
 pub loop-week-preserved : goal.loop-week-preserved

@@ -1,7 +1,6 @@
 -- One call more goes behind the text (`behind`).
-use Rattle.cif_views.proofs.Names.{call_text, line_of, ◌++◌}
+use Rattle.cif_views.proofs.{CallTexts.one-done, Names.call_text, Names.line_of, Names.◌++◌}
 use Rattle.cif_canon.proofs.AppendedTexts.{behind}
-use Rattle.cif_views.proofs.CallTexts.{one-done}
 use Rattle.cif_views.proofs.calls.write_calls_between.Goals as goal
 
 pub loop-call-preserved : goal.loop-call-preserved

@@ -1,8 +1,7 @@
 -- One record after another gets its mark (`one_marked`), and its line goes behind the text (`behind`).
 use Rattle.cif_views.proofs.Names.{All-nil, IsMarkAt, IsMarkOf, [], ap, arith, get_or-map, map, marked_as, placed_of, refl, subst, sym}
-use Rattle.cif_views.proofs.Names.{◌++◌, ◌∙◌, ◌∷◌}
+use Rattle.cif_views.proofs.{Explaining.one_marked, Names.◌++◌, Names.◌∙◌, Names.◌∷◌}
 use Rattle.cif_canon.proofs.AppendedTexts.{behind, nothing, text-is}
-use Rattle.cif_views.proofs.Explaining.{one_marked}
 use Rattle.cif_views.proofs.explanation.write_explained.Goals as goal
 
 pub loop-i-init : goal.loop-i-init

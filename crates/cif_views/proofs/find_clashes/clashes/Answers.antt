@@ -1,9 +1,8 @@
 -- What is said of the list is said of the clashes, which are seen as it.
 use Rattle.cif_views.proofs.Names.{AreAllClashes, Clash, IsClearExtract, IsFirstClashIn, List, Some, [], extract_parts, slice_get, subst}
-use Rattle.cif_views.proofs.Names.{sym, ◌↔◌, ◌≡◌}
-use Rattle.cif_views.proofs.ClashLists.{all-found, clashes-clear, clashes-first}
+use Rattle.cif_views.proofs.{ClashLists.all-found, ClashLists.clashes-clear, ClashLists.clashes-first, Names.sym, Names.◌↔◌, Names.◌≡◌}
+use Rattle.cif_views.proofs.{find_clashes.clashes.Goals.In_ok-all}
 use Rattle.cif_views.proofs.find_clashes.clashes.Goals as goal
-use Rattle.cif_views.proofs.find_clashes.clashes.Goals.{In_ok-all}
 
 -- the clashes of both slices are those of the extract
 found : (c : In_ok-all) → AreAllClashes (extract_parts c.args.extract.now) c.in_ok-all.all.items

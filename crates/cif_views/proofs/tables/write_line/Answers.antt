@@ -1,7 +1,6 @@
 -- The fields of the columns are a row (`columns-row`).
-use Rattle.cif_views.proofs.Names.{Other, fields_in, named}
+use Rattle.cif_views.proofs.{Names.Other, Names.fields_in, Names.named, TableRows.begun-row, TableRows.columns-row, TableRows.more-pushed}
 use Rattle.cif_canon.proofs.AppendedTexts.{text-is}
-use Rattle.cif_views.proofs.TableRows.{begun-row, columns-row, more-pushed}
 use Rattle.cif_views.proofs.tables.write_line.Goals as goal
 
 pub write-requires-clause-some : goal.write-requires-clause-some

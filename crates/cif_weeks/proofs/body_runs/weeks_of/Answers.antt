@@ -1,7 +1,6 @@
 -- One span more: if it has this source, the weeks reach to its own.
-use Rattle.cif_weeks.proofs.Names.{arith, take_all, ⊎_elim}
-use Rattle.cif_weeks.proofs.{Spans.old_or_new, Spans.take_next, body_runs.weeks_of.Goals.else-span-source}
-use Rattle.cif_weeks.proofs.{body_runs.weeks_of.Goals.then-span-source}
+use Rattle.cif_weeks.proofs.{Names.arith, Names.take_all, Names.⊎_elim, Spans.old_or_new, Spans.take_next}
+use Rattle.cif_weeks.proofs.{body_runs.weeks_of.Goals.else-span-source, body_runs.weeks_of.Goals.then-span-source}
 use Rattle.cif_weeks.proofs.body_runs.weeks_of.Goals as goal
 
 pub loop-span-preserved : goal.loop-span-preserved

@@ -1,6 +1,5 @@
 -- The runs of the spans so far.
-use Rattle.cif_weeks.proofs.Names.{HasSource, take, window_days}
-use Rattle.cif_weeks.proofs.SpanRuns.{AreRunsOf}
+use Rattle.cif_weeks.proofs.{Names.HasSource, Names.take, Names.window_days, SpanRuns.AreRunsOf}
 use Rattle.cif_weeks.proofs.few.add_runs_of_spans.Given as goal
 
 abbrev pub invariant-loop-number : goal.invariant-loop-number

@@ -1,9 +1,8 @@
 -- By their last days pieces rise (`tiles-rise`), so the search finds a place (`place-from_point`): a piece stands there and has the day.
 use Rattle.cif_calendar.proofs.Names.{Contains, IsPartitionPoint-from_clause, IsPartitionedBy-ltb, List, Piece, arith, ltb, rules, subst}
-use Rattle.cif_calendar.proofs.Names.{sym, ◌+◌, ◌≤◌}
+use Rattle.cif_calendar.proofs.{Names.sym, Names.◌+◌, Names.◌≤◌, key_calendar.Calendar.piece_on.Goals.After-partition_point-i}
 use Rattle.cif_calendar.proofs.PieceLists.{IsPlaceOf, place-below, place-from, place-from_point, tiles-rise}
 use Rattle.cif_calendar.proofs.key_calendar.Calendar.piece_on.Goals as goal
-use Rattle.cif_calendar.proofs.key_calendar.Calendar.piece_on.Goals.{After-partition_point-i}
 
 place : (c : After-partition_point-i) → IsPlaceOf c.pieces-pieces.result.now c.args.day c.partition_point-i.result
 place c =

@@ -1,6 +1,5 @@
 -- The entry at the member's position is there.
-use Rattle.cif_calendar.proofs.Names.{get_or, get_or_default, slice_get-get_or}
-use Rattle.cif_calendar.proofs.{Positions.AreLawful-chosen, Winning.terms_at}
+use Rattle.cif_calendar.proofs.{Names.get_or, Names.get_or_default, Names.slice_get-get_or, Positions.AreLawful-chosen, Winning.terms_at}
 use Rattle.cif_calendar.proofs.standing.Members.entry.Goals as goal
 
 pub returns-clause-stands : goal.returns-clause-stands

@@ -1,7 +1,6 @@
 -- Five parts are appended one behind another (`canon-appended`).
-use Rattle.cif_canon.proofs.Names.{CanonParts, ap, extract_parts}
-use Rattle.cif_canon.proofs.AppendedTexts.{answered, appended, text-is}
-use Rattle.cif_canon.proofs.WrittenCanon.{canon-appended}
+use Rattle.cif_canon.proofs.{AppendedTexts.answered, AppendedTexts.appended, AppendedTexts.text-is, Names.CanonParts, Names.ap}
+use Rattle.cif_canon.proofs.{Names.extract_parts, WrittenCanon.canon-appended}
 use Rattle.cif_canon.proofs.canonical_form.Canon.write.Goals as goal
 
 pub returns-clause-writes : goal.returns-clause-writes

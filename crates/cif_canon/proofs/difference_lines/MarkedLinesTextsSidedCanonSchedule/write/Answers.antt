@@ -1,6 +1,5 @@
 -- The marked text is that of the BS and then of the other lines (`marked-all`).
-use Rattle.cif_canon.proofs.Names.{[], marked_text, ◌∷◌}
-use Rattle.cif_canon.proofs.{AppendedTexts.both, AppendedTexts.text-is, MarkedTexts.marked-all}
+use Rattle.cif_canon.proofs.{AppendedTexts.both, AppendedTexts.text-is, MarkedTexts.marked-all, Names.[], Names.marked_text, Names.◌∷◌}
 use Rattle.cif_canon.proofs.difference_lines.MarkedLinesTextsSidedCanonSchedule.write.Goals as goal
 
 pub returns : goal.returns

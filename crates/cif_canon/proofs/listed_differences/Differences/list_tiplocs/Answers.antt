@@ -1,6 +1,5 @@
 -- They are the locations of the differences.
-use Rattle.cif_canon.proofs.Names.{DifferencesParts, ap, flat_map}
-use Rattle.cif_canon.proofs.AppendedTexts.{text-is}
+use Rattle.cif_canon.proofs.{AppendedTexts.text-is, Names.DifferencesParts, Names.ap, Names.flat_map}
 use Rattle.cif_canon.proofs.listed_differences.Differences.list_tiplocs.Goals as goal
 
 pub returns : goal.returns

@@ -1,6 +1,5 @@
 -- `codes_in` computes the codes; that they stand there, alone, and are codes, is by induction over the pairs (`Codes`).
-use Rattle.cif_columns.proofs.Names.{◌∙◌}
-use Rattle.cif_columns.proofs.Codes.{are_codes-codes_in, codes_in-stands, stands-codes_in}
+use Rattle.cif_columns.proofs.{Codes.are_codes-codes_in, Codes.codes_in-stands, Codes.stands-codes_in, Names.◌∙◌}
 use Rattle.cif_columns.proofs.activities.Activities.read.Goals as goal
 
 pub invariant_of-result : goal.invariant_of-result

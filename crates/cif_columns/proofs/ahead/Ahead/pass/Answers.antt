@@ -1,6 +1,5 @@
 -- A range that begins later is the held bytes without their first (`range_rest`).
-use Rattle.cif_columns.proofs.Names.{arith, ◌+◌, ◌≤◌}
-use Rattle.cif_columns.proofs.HeldBytes.{range_length, range_rest}
+use Rattle.cif_columns.proofs.{HeldBytes.range_length, HeldBytes.range_rest, Names.arith, Names.◌+◌, Names.◌≤◌}
 use Rattle.cif_columns.proofs.ahead.Ahead.pass.Goals as goal
 
 pub returns-clause-held : goal.returns-clause-held

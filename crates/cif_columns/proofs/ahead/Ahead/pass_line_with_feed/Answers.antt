@@ -1,6 +1,5 @@
 -- A range that begins 81 bytes later is the held bytes without their first 81 (`range_rest`).
-use Rattle.cif_columns.proofs.Names.{arith, ◌+◌, ◌≤◌}
-use Rattle.cif_columns.proofs.HeldBytes.{range_length, range_rest}
+use Rattle.cif_columns.proofs.{HeldBytes.range_length, HeldBytes.range_rest, Names.arith, Names.◌+◌, Names.◌≤◌}
 use Rattle.cif_columns.proofs.ahead.Ahead.pass_line_with_feed.Goals as goal
 
 pub returns : goal.returns

@@ -1,6 +1,5 @@
 -- A line that is ahead is the next one (`next_passed`), and a comment or none (`content_next`).
-use Rattle.cif_columns.proofs.Names.{InFeed, refl, ◌∙◌}
-use Rattle.cif_columns.proofs.{LineAnswers.content_next, PassedLines.next_passed}
+use Rattle.cif_columns.proofs.{LineAnswers.content_next, Names.InFeed, Names.refl, Names.◌∙◌, PassedLines.next_passed}
 use Rattle.cif_columns.proofs.line_reader.LineReader.read_content.Goals as goal
 
 pub returns-then-read_ahead : goal.returns-then-read_ahead

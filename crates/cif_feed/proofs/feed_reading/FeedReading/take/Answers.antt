@@ -1,7 +1,6 @@
 -- A note is counted (`note_taken`); of a line that is taken its mark is kept (`line_taken`).
 use Rattle.cif_feed.proofs.Names.{List, ap, is_schedule_mark, is_trailer_mark, kind_in, mark_parts, sym, with_mark, ℕ, ◌||◌, ◌∙◌}
-use Rattle.cif_feed.proofs.FeedSteps.{line_taken, note_taken}
-use Rattle.cif_feed.proofs.MarkLaws.{marked, schedule_there, trailer_there}
+use Rattle.cif_feed.proofs.{FeedSteps.line_taken, FeedSteps.note_taken, MarkLaws.marked, MarkLaws.schedule_there, MarkLaws.trailer_there}
 use Rattle.cif_feed.proofs.feed_reading.FeedReading.take.Goals as goal
 
 pub returns-then-is_note-clause-taken : goal.returns-then-is_note-clause-taken

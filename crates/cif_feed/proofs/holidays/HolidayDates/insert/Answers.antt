@@ -1,7 +1,6 @@
 -- An insertion adds the day (`dates-inserted`).
-use Rattle.cif_feed.proofs.GrownHolidays.{dates-inserted, dates-there, rising-inserted}
+use Rattle.cif_feed.proofs.{GrownHolidays.dates-inserted, GrownHolidays.dates-there, GrownHolidays.rising-inserted, Names.refl}
 use Rattle.std.proofs.Common.{is_ok}
-use Rattle.cif_feed.proofs.{Names.refl}
 use Rattle.cif_feed.proofs.holidays.HolidayDates.insert.Goals as goal
 
 pub returns-clause-days : goal.returns-clause-days

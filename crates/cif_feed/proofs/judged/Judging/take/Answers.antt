@@ -1,7 +1,6 @@
 -- A line without a reason is judged by `line_judged`; what isn't read as a record, or is no line, has its reason.
 use Rattle.cif_feed.proofs.Names.{ap, record_refusal, sym, ◌∙◌}
-use Rattle.cif_feed.proofs.JudgedRuns.{line_judged}
-use Rattle.cif_feed.proofs.ReportedReasons.{judged_line, own_of_judged, own_of_line}
+use Rattle.cif_feed.proofs.{JudgedRuns.line_judged, ReportedReasons.judged_line, ReportedReasons.own_of_judged, ReportedReasons.own_of_line}
 use Rattle.cif_feed.proofs.judged.Judging.take.Goals as goal
 
 pub returns-in-None-clause-judged : goal.returns-in-None-clause-judged

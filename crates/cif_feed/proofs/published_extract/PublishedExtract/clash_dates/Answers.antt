@@ -1,6 +1,5 @@
 -- They are found in the associations, and then in the schedules (`all-found`).
-use Rattle.cif_feed.proofs.Names.{get, key_cmp, nat_cmp}
-use Rattle.cif_feed.proofs.ClashingKeys.{all-found}
+use Rattle.cif_feed.proofs.{ClashingKeys.all-found, Names.get, Names.key_cmp, Names.nat_cmp}
 use Rattle.cif_feed.proofs.published_extract.PublishedExtract.clash_dates.Goals as goal
 
 pub returns : goal.returns

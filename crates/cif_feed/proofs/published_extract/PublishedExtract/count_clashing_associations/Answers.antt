@@ -1,7 +1,6 @@
 -- One association more, which applies on a clash date or not.
 use Rattle.cif_feed.proofs.Names.{AppliesOnAny, Contains, IsCountOf, List, None, PublishedAssociation, published_association_terms, subst}
-use Rattle.cif_feed.proofs.Names.{take_all, ◌∙◌}
-use Rattle.cif_feed.proofs.CutCounts.{count-more, on-any, within-more}
+use Rattle.cif_feed.proofs.{CutCounts.count-more, CutCounts.on-any, CutCounts.within-more, Names.take_all, Names.◌∙◌}
 use Rattle.cif_feed.proofs.published_extract.PublishedExtract.count_clashing_associations.Goals as goal
 
 pub loop-one-preserved : goal.loop-one-preserved

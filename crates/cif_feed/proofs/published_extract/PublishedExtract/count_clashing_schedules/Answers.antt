@@ -1,7 +1,6 @@
 -- One schedule more, which applies on a clash date or not.
 use Rattle.cif_feed.proofs.Names.{AppliesOnAny, Contains, IsCountOf, List, PublishedSchedule, published_schedule_terms, subst, take_all}
-use Rattle.cif_feed.proofs.Names.{◌∙◌}
-use Rattle.cif_feed.proofs.CutCounts.{count-more, on-any, within-more}
+use Rattle.cif_feed.proofs.{CutCounts.count-more, CutCounts.on-any, CutCounts.within-more, Names.◌∙◌}
 use Rattle.cif_feed.proofs.published_extract.PublishedExtract.count_clashing_schedules.Goals as goal
 
 pub loop-one-preserved : goal.loop-one-preserved

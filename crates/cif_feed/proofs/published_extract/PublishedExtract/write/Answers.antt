@@ -1,6 +1,5 @@
 -- The texts are that of the published extract.
-use Rattle.cif_feed.proofs.Names.{Writes, published_parts, subst}
-use Rattle.cif_feed.proofs.WrittenItems.{published-whole}
+use Rattle.cif_feed.proofs.{Names.Writes, Names.published_parts, Names.subst, WrittenItems.published-whole}
 use Rattle.cif_feed.proofs.published_extract.PublishedExtract.write.Goals as goal
 
 pub returns : goal.returns

@@ -1,7 +1,6 @@
 -- The rows of front and back stand as the terms do, and those of the detail where it was read: `stands-append` joins them.
 use Rattle.cif_records.proofs.Names.{AllStandIn, BasicTerms, basic_back, basic_front, detail_rows, stands-append, subst, sym, ◌++◌}
-use Rattle.cif_records.proofs.Basics.{no_refusal, one_basic, parts_of}
-use Rattle.cif_records.proofs.Judging.{only}
+use Rattle.cif_records.proofs.{Basics.no_refusal, Basics.one_basic, Basics.parts_of, Judging.only}
 use Rattle.cif_records.proofs.basic.Basic.read.Goals as goal
 
 pub returns-in-Ok-clause-exact : goal.returns-in-Ok-clause-exact

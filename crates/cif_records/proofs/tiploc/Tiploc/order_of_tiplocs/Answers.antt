@@ -1,6 +1,5 @@
 -- The derived equality compares bytes (`bytes_decides`), and the columns alone determine a location (`same_tiploc`).
-use Rattle.cif_records.proofs.Names.{Tiploc, ap, bytes_decides}
-use Rattle.cif_records.proofs.Tiplocs.{same_tiploc}
+use Rattle.cif_records.proofs.{Names.Tiploc, Names.ap, Names.bytes_decides, Tiplocs.same_tiploc}
 use Rattle.cif_records.proofs.tiploc.Tiploc.order_of_tiplocs.Goals as goal
 
 pub returns-clause-equality : goal.returns-clause-equality

@@ -1,7 +1,6 @@
 -- The text is that of the moment (`text-is`), by its hours.
 use Rattle.cif_views.proofs.Names.{List, ap, append_assoc, arith, decimal, sym, two_digits, ℕ, ◌%◌, ◌*◌, ◌++◌, ◌+◌, ◌-◌, ◌/◌, ◌<◌, ◌^◌, ◌∙◌}
-use Rattle.cif_views.proofs.Names.{◌∷◌, ◌≤◌}
-use Rattle.cif_views.proofs.Moments.{long-hours, short-hours, text-is}
+use Rattle.cif_views.proofs.{Moments.long-hours, Moments.short-hours, Moments.text-is, Names.◌∷◌, Names.◌≤◌}
 use Rattle.cif_views.proofs.moment.Moment.push_later.Goals as goal
 
 pub returns-then-hours-lt100-clause-text : goal.returns-then-hours-lt100-clause-text

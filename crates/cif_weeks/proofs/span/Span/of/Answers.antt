@@ -1,6 +1,5 @@
 -- The span has the days of the record in the window (`span-of`); where it has none (`span-none`), there is no span.
-use Rattle.cif_weeks.proofs.Spans.{day-later, span-none, span-of}
-use Rattle.cif_weeks.proofs.Names.{window_days, ◌∙◌}
+use Rattle.cif_weeks.proofs.{Names.window_days, Names.◌∙◌, Spans.day-later, Spans.span-none, Spans.span-of}
 use Rattle.cif_weeks.proofs.span.Span.of.Goals as goal
 
 pub returns-then-lt-clause-none : goal.returns-then-lt-clause-none
