@@ -4,8 +4,7 @@ use Rattle.cif_calendar.proofs.Names.{CalendarParts, ChangesOn, Err, IsAnswer, I
 use Rattle.cif_calendar.proofs.Names.{IsFault, IsFirstClash, IsPiece, IsSource, IsStretch, List, Memory, None, Ok, Option, Piece, Result}
 use Rattle.cif_calendar.proofs.Names.{Some, SomeIff, Stretch, Terms, Tiles, [], ap, arith, cases_lt, drop, drop_more, get_or, inl, inr}
 use Rattle.cif_calendar.proofs.Names.{length, length-append, refl, source_at, subst, sym, unwrap_or, ℕ, ⊎_elim, ◌*◌, ◌++◌, ◌+◌, ◌<◌, ◌∙◌}
-use Rattle.cif_calendar.proofs.Names.{◌∷◌, ◌≡◌, ◌≤◌, ◌⊎◌}
-use Rattle.cif_calendar.proofs.FewPieces.{left, left-le, left-next}
+use Rattle.cif_calendar.proofs.{FewPieces.left, FewPieces.left-le, FewPieces.left-next, Names.◌∷◌, Names.◌≡◌, Names.◌≤◌, Names.◌⊎◌}
 use Rattle.cif_calendar.proofs.{FirstClash.IsFirstClash-unique, FirstClash.first_clash-clear, Meaning.Runs-from_source}
 use Rattle.cif_calendar.proofs.PieceLists.{IsInPiece, source_at-piece, tiles-find, tiles-from, tiles-push}
 

@@ -1,10 +1,9 @@
 -- Clashes by positions, and their names one after another.
 use Rattle.cif_calendar.proofs.Names.{HasKey, KeyClash, List, Some, Terms, [], ap, append-nil, append_assoc, flat_map, flat_map-append}
 use Rattle.cif_calendar.proofs.Names.{get_or, length, map, named, named_if, option_map, sym, take, take_all, take_more, ℕ, ◌++◌, ◌+◌, ◌<◌}
-use Rattle.cif_calendar.proofs.Names.{◌∙◌, ◌∷◌, ◌≡◌, ◌≤◌}
+use Rattle.cif_calendar.{proofs.Names.◌∙◌, proofs.Names.◌∷◌, proofs.Names.◌≡◌, proofs.Names.◌≤◌, specs.Clashes.key_and_day}
 use Rattle.std.proofs.{lemmas.List.Concat.flat_map_single, lemmas.List.Folds.flat_map-map}
 use Rattle.cif_extract.specs.declared.fault.Clash.{Clash}
-use Rattle.cif_calendar.specs.Clashes.{key_and_day}
 
 module _ {K B : Type 0} (name : K → ℕ → Clash) (es : List (K × Terms B)) (known : List Clash) (found : List KeyClash) where
   -- the name of a clash, by the key at its position

@@ -24,12 +24,11 @@ pub use Rattle.cif_extract.proofs.Names.{C, P, Stp, err_from_is_err_and, get_or-
 pub use Rattle.cif_calendar.specs.{Applies.Applies, ClashDates.AreClashDates, ClashDates.IsClashBetween, DayState.AreDayStates}
 pub use Rattle.cif_calendar.specs.{DayState.IsDayState, Ranks.AreRanked, Wins.Wins, Wins.precedence}
 pub use Rattle.cif_calendar.specs.ByKey.{AnyHasKey, AreAllByKey, AreFrom, AreOfFirstKey, HasKey, IsCountOfKey, IsFirstOfBoth, IsNotAfter}
-pub use Rattle.cif_calendar.specs.ByKey.{IsRising}
+pub use Rattle.cif_calendar.specs.{ByKey.IsRising, Runs.BodyRuns, Runs.NothingRuns, Runs.Runs}
 pub use Rattle.cif_calendar.specs.Calendar.{CalendarParts, IsAnswer, IsCalendar, IsFault, body_on}
 pub use Rattle.cif_calendar.specs.Clash.{IsClash, IsClear, IsClearFrom, IsFirstClash}
 pub use Rattle.cif_calendar.specs.Keys.{AreClear, ArePositionsOf, IsFirstClashOf, keyed, of_key}
 pub use Rattle.cif_calendar.specs.Pieces.{BeginsPiece, ChangesOn, IsBoundary, IsPiece, IsUnbroken, Tiles, source_at, winner_of}
-pub use Rattle.cif_calendar.specs.Runs.{BodyRuns, NothingRuns, Runs}
 pub use Rattle.cif_calendar.specs.Source.{IsChosen, IsSource, IsWinnerAt, body_at}
 pub use Rattle.cif_calendar.specs.Steps.Clashes.{IsAddedOfKey, IsFaultAdded, named, named_if}
 pub use Rattle.cif_calendar.specs.Steps.Standing.{AreAlike, AreBelow, Combines, HaveOneBody, IsBelow, IsDisputed, IsRank, Leads, LooksAt}

@@ -3,8 +3,7 @@ use Rattle.cif_calendar.proofs.Names.{Applies, AreBehind, AreBelow, AreStretches
 use Rattle.cif_calendar.proofs.Names.{IsUnbroken, Leader, List, LooksAt, Nobody, Records, Some, Standing, Stands, Stretch, Terms, [], ap}
 use Rattle.cif_calendar.proofs.Names.{arith, false, get_or, inl, inr, is_le, length, nat_cmp, ord_min, refl, replicate, rules, slice_get}
 use Rattle.cif_calendar.proofs.Names.{slice_get-get_or, subst, sym, true, weekday_of, ℕ, ⊎_elim, ◌++◌, ◌+◌, ◌-◌, ◌<◌, ◌∙◌, ◌∷◌, ◌≡◌, ◌≤◌}
-use Rattle.cif_calendar.proofs.Names.{◌⊎◌}
-use Rattle.cif_calendar.proofs.Standings.{below-same, stands-more, stands-none, stands-skip}
+use Rattle.cif_calendar.proofs.{Names.◌⊎◌, Standings.below-same, Standings.stands-more, Standings.stands-none, Standings.stands-skip}
 use Rattle.cif_calendar.proofs.Winning.{IsUnion, chosen-one, chosen-union, one-chosen, union-swap}
 
 -- what a test of two days tells

@@ -3,9 +3,8 @@ use Rattle.cif_canon.proofs.Names.{AreDifferentTiplocs, Contains, Contains-cases
 use Rattle.cif_canon.proofs.Names.{Greater, IsFirstTiploc, IsOnlyIn, Left, Less, List, None, Right, Side, Sided, Some, Tiploc, [], ap}
 use Rattle.cif_canon.proofs.Names.{bytes_decides, inl, inr, is_eq, less_one_way, nat_cmp, nat_list_cmp_total, not_less, on_total}
 use Rattle.cif_canon.proofs.Names.{ordering_reverse, refl, same_Some, same_tiploc, slice_cmp, slice_get, subst, texts_ties, ⊎_elim, ◌↔◌}
-use Rattle.cif_canon.proofs.Names.{◌∙◌, ◌∷◌, ◌≡◌, ◌⊎◌}
+use Rattle.cif_canon.proofs.{MergedSides.pairs-head, Names.◌∙◌, Names.◌∷◌, Names.◌≡◌, Names.◌⊎◌}
 use Rattle.cif_calendar.proofs.KeyTurns.{decided}
-use Rattle.cif_canon.proofs.MergedSides.{pairs-head}
 
 -- one location comes before another
 abbrev pub Before : Tiploc → Tiploc → Type 0

@@ -6,9 +6,8 @@ use Rattle.cif_canon.proofs.Names.{Window, ap, body_on, extract_fault, get_or, h
 use Rattle.cif_canon.proofs.Names.{key-source, keyed, length, map, of_key, of_key-more, one-key, option_and_then, positions-records, refl}
 use Rattle.cif_canon.proofs.Names.{subst, sym, terms_at-keyed, tight, window_from, window_of, with_key, zip-back, zip-map, zip-with, ℕ}
 use Rattle.cif_canon.proofs.Names.{⊎_elim, ◌++◌, ◌<◌, ◌↔◌, ◌∙◌, ◌≡◌}
-use Rattle.cif_calendar.proofs.Sets.{IsClearFrom-same, Runs-same}
+use Rattle.cif_calendar.{proofs.Sets.IsClearFrom-same, proofs.Sets.Runs-same, specs.declared.key_calendar.CalendarFault.TheVariants.Memory}
 use Rattle.cif_calendar.specs.declared.{key_calendar.CalendarFault.CalendarFault, key_calendar.CalendarFault.TheVariants.Ambiguous}
-use Rattle.cif_calendar.specs.declared.{key_calendar.CalendarFault.TheVariants.Memory}
 use Rattle.cif_weeks.specs.Runs.{IsRunOf as IsCalendarRun}
 
 -- sets with the same records say the same

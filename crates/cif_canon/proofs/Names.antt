@@ -16,11 +16,9 @@ pub use Rattle.std.proofs.lemmas.Option.{none-some, option_and_then_some, slice_
 pub use Rattle.std.specs.Cmp.Lexicographic.{nat_list_cmp_total, on_texts_equal, texts_ties}
 pub use Rattle.std.specs.List.{AllByRecursion, dedup, enumerate_from}
 pub use Rattle.cif_columns.proofs.Names.{All-replicate, Appends-nil, ArePrintable, Decides-eqb, common_steps, cond_both, pointwise}
-pub use Rattle.cif_columns.proofs.Names.{sink_failed, slice_cmp, writer_of}
-pub use Rattle.cif_columns.specs.declared.sink.Sink.{Sink}
-pub use Rattle.cif_records.proofs.{Headers.same_header, Tiplocs.same_tiploc}
+pub use Rattle.cif_columns.{proofs.Names.sink_failed, proofs.Names.slice_cmp, proofs.Names.writer_of, specs.declared.sink.Sink.Sink}
+pub use Rattle.cif_records.{proofs.Headers.same_header, proofs.Tiplocs.same_tiploc, specs.AssocKey.key_cmp, specs.Trailer.trailer_table}
 pub use Rattle.cif_records.proofs.Names.{association_rows, header_table, length-plain_line, with_window}
-pub use Rattle.cif_records.specs.{AssocKey.key_cmp, Trailer.trailer_table}
 pub use Rattle.cif_records.specs.declared.{association.AssocBody.AssocBody, association.AssocKey.AssocKey}
 unfoldable pub use Rattle.cif_extract.proofs.Names.{schedule_lines}
 pub use Rattle.cif_extract.proofs.Names.{AllFit, BodyLines, BytesSpell, BytesSpellWithin, C, Detail, ExtractParts, FitsColumns, HasFailed}
@@ -47,7 +45,7 @@ pub use Rattle.cif_calendar.specs.Entries.{association_entries, association_entr
 pub use Rattle.cif_calendar.specs.Meaning.{EntriesSayTheSame}
 pub use Rattle.cif_weeks.proofs.{AlignedDays.tight, CalendarSources.calendar_sources}
 pub use Rattle.cif_weeks.proofs.JoinedLists.{AllPairs-append, AllPairs-map, AllZip-append, Contains-from_map, Contains-map, zip-at}
-pub use Rattle.cif_weeks.proofs.JoinedLists.{zip-back, zip-map, zip-with}
+pub use Rattle.cif_weeks.{proofs.JoinedLists.zip-back, proofs.JoinedLists.zip-map, proofs.JoinedLists.zip-with, specs.WhatRuns.HasBody}
 pub use Rattle.cif_weeks.proofs.KeyByKey.{HasBody-more, canonical-more, canonical-none, of_key-more}
 pub use Rattle.cif_weeks.proofs.Names.{All-cons, All-contains, All-head, All-nil, All-tail, All-take, AllPairs-cons, AllZip, AreCanonical}
 pub use Rattle.cif_weeks.proofs.Names.{AreCanonicalRuns, AreClear, AreLawful, AreRunsOfMembers, AreSources, BodyRuns, CalendarParts}
@@ -60,7 +58,6 @@ pub use Rattle.cif_weeks.proofs.Names.{length-map, less_one_way, nat_tests, not_
 pub use Rattle.cif_weeks.proofs.Names.{same_Some, same_members, slice_get-get_or, slice_get_within, source_at, source_at-piece, take_more}
 pub use Rattle.cif_weeks.proofs.Names.{terms_at, terms_of, tiles-ends, weekday_of, window_days, window_from, window_of, winner_of, with_key}
 pub use Rattle.cif_weeks.proofs.PermanentEntries.{canonical-clear, canonical-dated, records-meaning, runs-applies}
-pub use Rattle.cif_weeks.specs.WhatRuns.{HasBody}
 pub use Rattle.cif_weeks.specs.declared.{form.Form.Form, form.Form.TheVariants.One, form.Form.TheVariants.Two, form.Run.Run}
 pub use Rattle.cif_canon.specs.Accepted.{IsAccepted, IsAcceptedWithin, IsClearExtract, SpellsNarrowed}
 pub use Rattle.cif_canon.specs.{Appended.IsAppended, Canon.CanonParts, Canon.IsCanonOf, Differences.marked_tiploc, Differences.of_side}

@@ -1,8 +1,7 @@
 -- The parts of a canonical text, appended one after another.
 use Rattle.cif_canon.proofs.Names.{ExtractParts, IsAppended, List, Option, Run, Sink, Tiploc, [], association_entries, association_run_text}
 use Rattle.cif_canon.proofs.Names.{canon_text, flat_map, header_table, plain_line, schedule_entries, schedule_run_text, tiploc_text}
-use Rattle.cif_canon.proofs.Names.{trailer_table, ℕ, ◌++◌, ◌∷◌}
-use Rattle.cif_canon.proofs.AppendedTexts.{both}
+use Rattle.cif_canon.proofs.{AppendedTexts.both, Names.trailer_table, Names.ℕ, Names.◌++◌, Names.◌∷◌}
 
 module _ {W : Type 0} (contents : W → Option (List ℕ)) (errors : W → Option ℕ) (x : ExtractParts) (tiplocs : List Tiploc)
     (associations schedules : List Run) where

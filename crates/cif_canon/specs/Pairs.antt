@@ -1,8 +1,7 @@
 -- Differences by pairs: a left record and a right one that differ in nothing but their bodies.
 use Rattle.std.specs.Prelude.{◌≡◌, ℕ, Bool, ◌&&◌, List, [], ◌∷◌, Option, None, Some, Contains, map, nat_eq, if◌then◌else◌}
 use Rattle.std.specs.{Cmp.Lexicographic.pointwise, Cmp.Lexicographic.slice_cmp, List.flat_map, Option.option_map, Ordering.is_eq}
-use Rattle.std.specs.{Ordering.nat_cmp, declared.cmp.Ordering.Ordering}
-use Rattle.std.proofs.Math.Bool.{beq}
+use Rattle.std.{proofs.Math.Bool.beq, specs.Ordering.nat_cmp, specs.declared.cmp.Ordering.Ordering}
 use Rattle.cif_records.specs.AssocKey.{key_cmp}
 use Rattle.cif_weeks.specs.Permanent.{Permanent}
 use Rattle.cif_canon.specs.{Differences.DifferencesParts, Differences.is_side, declared.listed_differences.Side.TheVariants.Left}

@@ -36,8 +36,7 @@ pub use Rattle.jiff.specs.Types.{Date}
 pub use Rattle.jiff_core.specs.Calendar.{day_count, days_from_civil, days_in_month}
 pub use Rattle.cif_columns.specs.Activities.{AreCodes, IsCode, codes_columns, codes_in, packed}
 pub use Rattle.cif_columns.specs.Ahead.{AnswersNext, BeginWithLine, CutsNext, GivenDecided, IsLast, PassesFirst, content_bytes, held_bytes}
-pub use Rattle.cif_columns.specs.Ahead.{known_left}
-pub use Rattle.cif_columns.specs.Clock.{IsHourMinute, is_blank, is_clock}
+pub use Rattle.cif_columns.specs.{Ahead.known_left, Clock.IsHourMinute, Clock.is_blank, Clock.is_clock, Field.working_time}
 unfoldable pub use Rattle.cif_columns.specs.{Comment.begins_comment, Comment.is_comment, Text.text_of}
 pub use Rattle.cif_columns.specs.ContentReader.{AnswersContent, IsNextOf, IsNextWithin, content, most_of}
 pub use Rattle.cif_columns.specs.Contents.{AreUndecided, BeginOverlong, ComesFirst, DecideNoContent, EndsAtFeed, HasLineReason, HaveNoFeed}
@@ -51,7 +50,6 @@ pub use Rattle.cif_columns.specs.{Stp.letter, Stp.stp_in, WorkTime.IsWorkTime, W
 pub use Rattle.cif_columns.specs.DaysRun.{IsFirstOf, IsLastOf, RunsOn, bits_of, days_columns, days_of, flag, flags, is_flag}
 pub use Rattle.cif_columns.specs.Field.{AllFit, AllStandIn, FieldValue, Fits, Row, activity_codes, columns, date, exactly, indicator}
 pub use Rattle.cif_columns.specs.Field.{is_whole_from, plain_columns, plain_line, public_time, spare, text, weekdays, width_of}
-pub use Rattle.cif_columns.specs.Field.{working_time}
 pub use Rattle.cif_columns.specs.FirstLine.{is_line_feed, is_printable, line_of}
 pub use Rattle.cif_columns.specs.GivenLines.{AreAllContents, AreContentsToCut, AreContentsToFault, AreContentsToRefusal}
 pub use Rattle.cif_columns.specs.GivenLines.{AreWholeContentsAndRest, EndsLine, IsContentDecidedWithin}

@@ -8,8 +8,7 @@ use Rattle.cif_columns.proofs.Names.{nat_tests, onto_first, packed, plain_column
 use Rattle.cif_columns.proofs.Names.{slice_split, spare, strip_carriage_return, subst, text, true, two_digits, weekdays, width_of}
 use Rattle.cif_columns.proofs.Names.{working_time, yymmdd_of, ℕ, ◌%◌, ◌++◌, ◌+◌, ◌-◌, ◌<◌, ◌∙◌, ◌∷◌, ◌≡◌, ◌≤◌}
 use Rattle.cif_columns.proofs.{Codes.printable-packed, DayDigits.counted, Parts.length-plain_line, WholeLines.lines_to_feed}
-use Rattle.cif_columns.proofs.Times.{digits_printable, public_printable, work_printable}
-use Rattle.cif_columns.specs.Field.{StandsIn}
+use Rattle.cif_columns.{proofs.Times.digits_printable, proofs.Times.public_printable, proofs.Times.work_printable, specs.Field.StandsIn}
 
 spaces_printable : (n : ℕ) → ArePrintable (replicate n 32)
 spaces_printable n = All-replicate IsPrintable n 32 (omega arith, omega arith)

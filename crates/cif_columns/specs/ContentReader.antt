@@ -2,12 +2,11 @@
 use Rattle.std.specs.Prelude.{◌≡◌, ◌≢◌, ℕ, ◌+◌, ◌<◌, true, false, List, [], length, Option, Some, IfSome, IfOk, Result, Ok, Err}
 use Rattle.std.specs.Io.KnownBytes.{Keeps, prepend_known}
 use Rattle.cif_columns.specs.Ahead.{AnswersNext, content_bytes, held_bytes, known_left}
-use Rattle.cif_columns.specs.Contents.{BeginOverlong, DecideNoContent, most_by}
+use Rattle.cif_columns.specs.{Contents.BeginOverlong, Contents.DecideNoContent, Contents.most_by, declared.source.Source.Source}
 use Rattle.cif_columns.specs.Source.{HasFailedToRead, HasReadOn, reader_of, source_ended, source_failed}
 use Rattle.cif_columns.specs.declared.{ahead.ContentReader.ContentReader, ahead.Most.Most, ahead.Most.TheVariants.Of}
 use Rattle.cif_columns.specs.declared.{ahead.NextContent.NextContent, refusal.LineFault.LineFault, refusal.LineFault.TheVariants.Read}
 use Rattle.cif_columns.specs.declared.{refusal.LineFault.TheVariants.Refused, refusal.Refusal.TheVariants.TooManyLines}
-use Rattle.cif_columns.specs.declared.{source.Source.Source}
 use Rattle.cif_columns.specs.declared.ahead.NextContent.TheVariants.{Content, Overlong, End}
 
 -- the bytes that are held: read, and not yet given

@@ -9,10 +9,9 @@ use Rattle.cif_columns.specs.declared.ahead.NextContent.TheVariants as next
 use Rattle.cif_columns.specs.declared.line_reader.Content.TheVariants as content
 use Rattle.cif_columns.specs.declared.line_reader.Past.TheVariants.{Reading, Ended, Faulted}
 use Rattle.cif_columns.specs.{Ahead.held_bytes, Ahead.known_left, Comment.is_comment, ContentReader.IsNextWithin, Line.ArePrintable}
-use Rattle.cif_columns.specs.{Line.IsLine}
+use Rattle.cif_columns.specs.{Line.IsLine, Source.HasReadOn, Source.reader_of, Source.source_ended, Source.source_failed}
 pub use Rattle.cif_columns.specs.ContentReader.{GivenDecideContent, LineReads}
 use Rattle.cif_columns.specs.Contents.{DecideNoContent, contents_of, IsFirstContent, StandsFirst, HasLineReason, IsLineReason, most_by}
-use Rattle.cif_columns.specs.Source.{HasReadOn, reader_of, source_ended, source_failed}
 
 -- the bytes that are held: read, and not yet given
 abbrev pub held : LineReader → List ℕ

@@ -5,8 +5,7 @@ pub use Rattle.std.proofs.Common.{false, flat_map, get_or, inl, inr, is_ok, is_s
 pub use Rattle.std.proofs.Common.{nat_lt, ne_eqb, not, option_copied, option_map, refl, replicate, rules, slice_range, subst, suc, sym}
 pub use Rattle.std.proofs.Common.{take, take_all, true, true≢false, ℕ, ⊎_elim, ◌++◌, ◌+◌, ◌-◌, ◌<◌, ◌↔◌, ◌∙◌, ◌∷◌, ◌≡◌, ◌≢◌, ◌≤◌, ◌⊎◌}
 pub use Rattle.std.proofs.{Math.Seq.get_or-append_seam, lemmas.List.map-append, lemmas.Result.err_from_is_err_and}
-pub use Rattle.std.proofs.{lemmas.Result.on_ok_weaker}
-pub use Rattle.std.specs.Cmp.Lexicographic.{pointwise_decides}
+pub use Rattle.std.{proofs.lemmas.Result.on_ok_weaker, specs.Cmp.Lexicographic.pointwise_decides}
 pub use Rattle.cif_columns.proofs.GivenLinesLaws.{IsReading, contents_given, known_both, known_so, nothing_left, reading_decides}
 pub use Rattle.cif_columns.proofs.GivenLinesLaws.{reading_ends, reading_faults, reading_line, with_rest}
 pub use Rattle.cif_columns.proofs.Names.{All-cons, All-head, All-nil, All-tail, AreCodes, AreWholeContentsAndRest, Fits, HasFailed}

@@ -3,9 +3,8 @@ use Rattle.cif_extract.proofs.Names.{Aa, AreExtract, AreJourney, AreSchedule, Ar
 use Rattle.cif_extract.proofs.Names.{Detail, Extra, ExtractParts, HaveBody, Kind, Layouts, List, None, Option, Origin, Record, Schedule}
 use Rattle.cif_extract.proofs.Names.{Some, SpellAllBy, SpellExtractBy, Terminus, Ti, Tiploc, Turn, Zz, [], ap, append_assoc, call_record}
 use Rattle.cif_extract.proofs.Names.{extra_records, journey_records, kind_of, map, records_before_trailer, refl, subst, sym, ℕ, ⊎_elim}
-use Rattle.cif_extract.proofs.Names.{◌++◌, ◌∙◌, ◌∷◌, ◌≡◌}
+use Rattle.cif_extract.proofs.{Each.Each, Each.each_append, Each.each_map, Each.each_so, Names.◌++◌, Names.◌∙◌, Names.◌∷◌, Names.◌≡◌}
 use Rattle.cif_records.specs.declared.record.Record.TheVariants as of
-use Rattle.cif_extract.proofs.Each.{Each, each_append, each_map, each_so}
 use Rattle.cif_extract.proofs.{LayoutLaws.AreLayouts, Schedules.same_schedule}
 
 -- P doesn't hold of the first record, if there is one

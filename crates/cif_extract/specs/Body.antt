@@ -1,8 +1,7 @@
 -- What a schedule's body is: its plain lines, one a record.
 use Rattle.std.specs.Prelude.{All, Bool, List, None, Some, [], codes, cond, drop, length, map, slice_index_or, slice_range, ℕ, ◌++◌, ◌-◌}
 use Rattle.std.specs.{Prelude.◌∷◌, Prelude.◌≡◌, Str.bytes_eq}
-use Rattle.cif_columns.specs.Field.{Row, AllStandIn, columns, plain_line}
-use Rattle.cif_columns.specs.Line.{IsLine}
+use Rattle.cif_columns.specs.{Field.AllStandIn, Field.Row, Field.columns, Field.plain_line, Line.IsLine}
 use Rattle.cif_extract.specs.{BodyParts.BodyParts, BodyParts.body_records, BodyParts.journey_records, Call.call_in}
 use Rattle.cif_records.specs.{Detail.detail_in, Detail.detail_table, Extra.extra_in, Origin.origin_in, Record.record_table}
 use Rattle.cif_records.specs.{Terminus.terminus_in, declared.detail.Detail.Detail, declared.record.Record.Record}

@@ -9,14 +9,13 @@ pub use Rattle.std.proofs.Common.{rules, set, slice_get, slice_index, slice_inde
 pub use Rattle.std.proofs.Common.{take_all, true, true≢false, unwrap_or, vec_len, ℕ, ⊎_elim, ◌&&◌, ◌*◌, ◌++◌, ◌+◌, ◌-◌, ◌<◌, ◌==◌, ◌||◌}
 pub use Rattle.std.proofs.Common.{◌↔◌, ◌∙◌, ◌∷◌, ◌≡◌, ◌≢◌, ◌≤◌, ◌⊎◌}
 pub use Rattle.std.proofs.Math.Bool.{and-false, or-false, or-true}
-pub use Rattle.std.proofs.{lemmas.Cmp.eq_by_cmp_equiv, lemmas.Simd.map-map}
+pub use Rattle.std.{proofs.lemmas.Cmp.eq_by_cmp_equiv, proofs.lemmas.Simd.map-map, specs.Option.option_or, specs.Ordering.eq_by_cmp}
 pub use Rattle.std.proofs.lemmas.List.{append_cancel_left, at_drop_more, get_or_read, map_more}
 pub use Rattle.std.proofs.lemmas.List.Elements.{All-filter, All-map, filter-append, filter_agree, filter_passes}
 pub use Rattle.std.proofs.lemmas.List.Folds.{flat_map-map, length-prefix_len, list_any_at, position_or_len_push}
 pub use Rattle.std.proofs.lemmas.List.Sorted.{IsNonDecreasingBy-insert, IsPermutation-insert, IsPermutation-sym}
 pub use Rattle.std.proofs.lemmas.List.Sums.{count_by-le-length, fails_before_first, length-filter, passes_at_first, position_or_len_is}
 pub use Rattle.std.specs.{BTreeMap.get, Cmp.IsEquivalence, Cmp.on_equiv, List.Sorted.IsNonDecreasing, List.Sorted.IsPartitionPoint}
-pub use Rattle.std.specs.{Option.option_or, Ordering.eq_by_cmp}
 pub use Rattle.std.specs.List.{after_first, before_first, enumerate_from, items_where_true, position_or_len}
 pub use Rattle.cif_columns.proofs.ContentRuns.{HasGiven, at_limits, given_all, given_more, given_none, given_within}
 pub use Rattle.cif_columns.proofs.FirstContents.{content_first, overlong_content, some_content, stripped_long}
@@ -79,9 +78,8 @@ pub use Rattle.cif_calendar.proofs.Names.{AnyHasKey, Applies, AreClashDates, Are
 pub use Rattle.cif_calendar.proofs.Names.{Contains-append_left, Contains-get_or, Contains-permutation, Contains-push, Contains-push_cases}
 pub use Rattle.cif_calendar.proofs.Names.{IfOk-weaker, IsChosen, IsClear, IsPartitionPoint-from_clause, IsPartitionedBy-ltb, IsRising}
 pub use Rattle.cif_calendar.proofs.Names.{IsTotalOrder, Records, Runs, SameRecords, Terms, Wins, all_pairs_push, get_or-map, keyed}
-pub use Rattle.cif_calendar.proofs.Names.{tied_itself, weekday_of}
+pub use Rattle.cif_calendar.{proofs.Names.tied_itself, proofs.Names.weekday_of, specs.Entries.schedule_terms}
 pub use Rattle.cif_calendar.specs.Entries.{association_entries, association_entry, association_terms, schedule_entries, schedule_entry}
-pub use Rattle.cif_calendar.specs.Entries.{schedule_terms}
 pub use Rattle.cif_feed.specs.Changes.{AreAfter, AreRefused, ChangeParts, HaveLastWord, TellsSame, after_all, after_change, changes_of}
 pub use Rattle.cif_feed.specs.Changes.{is_changed, is_there, key_of, keyed_record, last_word, put_last, put_of, refusal, refusals}
 pub use Rattle.cif_feed.specs.Changes.{transaction_of, untouched, why_unfit, with_keys, without_key}

@@ -4,8 +4,7 @@ use Rattle.cif_feed.proofs.Names.{IfOk, IfSome, IsDeviceOrMemory, IsPublishedOf,
 use Rattle.cif_feed.proofs.Names.{Option, PublishedExtract, PublishedParts, Result, Sink, Some, Source, Unread, Writes, [], all_codes, ap}
 use Rattle.cif_feed.proofs.Names.{append-nil, append_assoc, goes-on, inl, inr, list_any, not, published_parts, published_text, reader_of}
 use Rattle.cif_feed.proofs.Names.{reading_published, refl, subst, sym, unread_of, updating, writes_on, ℕ, ⊎_elim, ◌&&◌, ◌++◌, ◌||◌, ◌∙◌}
-use Rattle.cif_feed.proofs.Names.{◌∷◌, ◌≡◌, ◌⊎◌}
-use Rattle.cif_feed.specs.Counts.{have_marks}
+use Rattle.cif_feed.{proofs.Names.◌∷◌, proofs.Names.◌≡◌, proofs.Names.◌⊎◌, specs.Counts.have_marks}
 use Rattle.cif_feed.specs.FeedAnswer.{AreDoneInTurn, AreGiven, AreUpdatesRead, EndsAs, FeedAnswers, FeedFinishes, IsReported}
 use Rattle.cif_feed.specs.FeedAnswer.{IsUpdateAnswer, IsUpdateFault, OfUpdates, UpdateReported, counts_in, waived_by}
 use Rattle.cif_columns.specs.declared.{line_reader.TheConstants.MAX_LINES, sink.WriteFault.WriteFault}

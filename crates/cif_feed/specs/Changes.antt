@@ -1,7 +1,6 @@
 -- What the lines of an update do, one after another, to records of one kind. `same` is a test that tells whether two keys are the same.
 use Rattle.std.specs.Prelude.{All, Bool, IsTrue, List, None, Option, Some, [], filter, if◌then◌else◌, map, not, option_to_list, ℕ, ◌++◌}
-use Rattle.std.specs.Prelude.{◌↔◌, ◌∷◌, ◌≡◌, ◌≢◌}
-use Rattle.std.specs.List.{list_any}
+use Rattle.std.specs.{List.list_any, Prelude.◌↔◌, Prelude.◌∷◌, Prelude.◌≡◌, Prelude.◌≢◌}
 use Rattle.cif_feed.specs.declared.{changes.Action.Action, changes.RecordChange.RecordChange, changes.RefusedLine.RefusedLine}
 use Rattle.cif_feed.specs.declared.{changes.Unfit.TheVariants.AlreadyThere, changes.Unfit.TheVariants.NotThere, changes.Unfit.Unfit}
 use Rattle.cif_feed.specs.declared.{mark.Transaction.Transaction}

@@ -4,9 +4,8 @@ use Rattle.std.specs.List.{flat_map, list_any}
 use Rattle.cif_columns.specs.{Contents.contents_of, Sink.Writes, Sink.writer_of, Source.Unread, Source.reader_of}
 use Rattle.cif_columns.specs.declared.{line_reader.TheConstants.MAX_LINES, sink.Sink.Sink, source.Source.Source}
 use Rattle.cif_extract.specs.{ReadCall.IsResultOf, ReadCall.ReadCall, ReadCall.reading, declared.fault.Fault.TheVariants.Write}
-use Rattle.cif_feed.specs.{Counts.counts_of, Counts.have_marks, FeedFault.is_feed_read, FeedFault.of_holiday_fault}
+use Rattle.cif_feed.specs.{Counts.counts_of, Counts.have_marks, FeedFault.is_feed_read, FeedFault.of_holiday_fault, UpdatesInTurn.IsWritten}
 use Rattle.cif_feed.specs.{FeedRefusal.IsFirstOfFeed, HolidayCode.all_codes, Holidays.Names, Updated.updating, UpdatesInTurn.IsRefused}
-use Rattle.cif_feed.specs.{UpdatesInTurn.IsWritten}
 use Rattle.cif_feed.specs.HolidayText.{IsFirstBadLine, IsHolidayFault, IsOfHolidays, SpellHolidays}
 use Rattle.cif_feed.specs.PublishedParts.{PublishedParts, published_parts, reading_published}
 use Rattle.cif_feed.specs.WrittenPrepared.{FeedWrites, IsDeviceOrMemory, IsPreparedText, codes_named, preparing}

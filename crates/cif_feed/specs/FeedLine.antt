@@ -7,8 +7,7 @@ use Rattle.cif_columns.specs.Field.{AllStandIn, FieldValue, Row, columns, column
 use Rattle.cif_columns.specs.{Stp.stp_in, declared.stp.Stp.Stp, declared.stp.Stp.TheVariants.C}
 use Rattle.cif_extract.specs.{Body.detail_of, Layouts.cancels, declared.extract.Schedule.Schedule}
 use Rattle.cif_records.specs.{Association.association_rows_by, Checks.are, Detail.detail_rows, Header.header_rows_by, Kind.kind_in}
-use Rattle.cif_records.specs.{Record.SpellsRecord, Tiploc.SpellsTiploc}
-use Rattle.cif_records.specs.Basic.{basic_back, basic_front_by, terms_of}
+use Rattle.cif_records.specs.{Basic.basic_back, Basic.basic_front_by, Basic.terms_of, Record.SpellsRecord, Tiploc.SpellsTiploc}
 use Rattle.cif_records.specs.declared.{association.AssocKey.AssocKey, association.Association.Association, basic.Basic.Basic}
 use Rattle.cif_records.specs.declared.{basic.BasicTerms.BasicTerms, detail.Detail.Detail, record.Kind.Kind, record.Kind.TheVariants.Ta}
 use Rattle.cif_records.specs.declared.{record.Kind.TheVariants.Td, record.Record.Record, tiploc.Tiploc.Tiploc}

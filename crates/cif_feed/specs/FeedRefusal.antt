@@ -10,8 +10,7 @@ use Rattle.cif_extract.specs.declared.{fault.Fault.TheVariants.Memory, fault.Fau
 use Rattle.cif_extract.specs.declared.reading.TakeFault.TheVariants as untaken
 use Rattle.cif_records.specs.{Checks.first_of, Checks.unless, Kind.kind_in}
 use Rattle.cif_records.specs.declared.{record.Kind.Kind, record.Kind.TheVariants.Hd, record.Kind.TheVariants.Zz}
-use Rattle.cif_feed.specs.FeedLayouts.{feed_layouts}
-use Rattle.cif_feed.specs.RecordLines.{is_note, notes_may_stand, record_lines}
+use Rattle.cif_feed.specs.{FeedLayouts.feed_layouts, RecordLines.is_note, RecordLines.notes_may_stand, RecordLines.record_lines}
 use Rattle.cif_feed.specs.declared.{feed_fault.FeedFault.FeedFault, feed_line.Feed.Feed, feed_line.Feed.TheVariants.Full}
 use Rattle.cif_feed.specs.declared.{feed_line.Feed.TheVariants.Update, holidays.HolidayCodes.HolidayCodes}
 use Rattle.cif_feed.specs.declared.feed_fault.FeedFault.TheVariants.{Extract, NotUpdate, BadTransaction}

@@ -1,6 +1,5 @@
 -- Extracts of this profile and published ones, as one another.
-use Rattle.std.specs.Prelude.{false, None, map}
-use Rattle.std.proofs.lemmas.Bool.{false≢true}
+use Rattle.std.{proofs.lemmas.Bool.false≢true, specs.Prelude.None, specs.Prelude.false, specs.Prelude.map}
 use Rattle.cif_extract.specs.{ExtractParts.ExtractParts, declared.extract.Schedule.Schedule}
 use Rattle.cif_records.specs.declared.association.Association.{Association}
 use Rattle.cif_feed.specs.{PublishedParts.PublishedParts, declared.published_extract.PublishedAssociation.PublishedAssociation}

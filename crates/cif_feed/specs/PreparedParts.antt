@@ -4,10 +4,9 @@ use Rattle.std.proofs.Math.Nat.{le-max_left}
 use Rattle.cif_calendar.specs.Entries.{association_entries, schedule_entries}
 use Rattle.cif_extract.specs.{ExtractParts.ExtractParts, declared.extract.Schedule.Schedule}
 use Rattle.cif_records.specs.declared.association.Association.{Association}
-use Rattle.cif_feed.specs.{Prepared.ArePrepared, Published.IsStop}
+use Rattle.cif_feed.specs.{Prepared.ArePrepared, Published.IsStop, declared.published_extract.PublishedExtract.PublishedExtract}
 use Rattle.cif_feed.specs.PublishedParts.{PublishedParts, published_associations, published_schedules}
 use Rattle.cif_feed.specs.declared.{holidays.Holidays.Holidays, prepared_record.PreparedRecord.PreparedRecord}
-use Rattle.cif_feed.specs.declared.{published_extract.PublishedExtract.PublishedExtract}
 
 -- an association, and a schedule, of a published extract with the dates that it has in the prepared one
 abbrev pub association_on : PreparedRecord Association ℕ → Association

@@ -5,9 +5,8 @@ use Rattle.cif_columns.specs.{Contents.contents_of, Contents.lines_text, Field.p
 use Rattle.cif_extract.specs.{Body.BodyLines, ReadCall.ReadCall, ReadCall.reading, declared.extract.Schedule.Schedule}
 use Rattle.cif_extract.specs.Texts.{further_lines, line_of_association, line_of_tiploc, rows_on}
 use Rattle.cif_calendar.specs.Entries.{association_terms, schedule_terms}
-use Rattle.cif_records.specs.{Header.header_table, Trailer.trailer_table}
+use Rattle.cif_records.specs.{Header.header_table, Trailer.trailer_table, declared.header.Header.Header, declared.tiploc.Tiploc.Tiploc}
 use Rattle.cif_records.specs.declared.{association.AssocBody.AssocBody, association.AssocKey.AssocKey, association.Association.Association}
-use Rattle.cif_records.specs.declared.{header.Header.Header, tiploc.Tiploc.Tiploc}
 use Rattle.cif_feed.specs.{Counts.counts_of, FromLines.AreTriples, Marks.passed_of, Published.PublishedTerms, SpellsFeed.FeedParts}
 use Rattle.cif_feed.specs.{SpellsFeed.SpellFeed, WrittenOver.with_code, WrittenOver.with_open_end}
 use Rattle.cif_feed.specs.FeedFault.{IsFeedFault, IsOfFeed, is_feed_read}

@@ -6,8 +6,7 @@ use Rattle.cif_records.specs.{Checks.are, declared.association.AssocKey.AssocKey
 use Rattle.cif_records.specs.{declared.header.Header.Header, declared.tiploc.Tiploc.Tiploc}
 use Rattle.cif_feed.specs.{Counts.counts_of, FromLines.AreTriples, HolidayCode.all_codes, Marks.passed_of}
 use Rattle.cif_feed.specs.{PublishedParts.IsPublishedAssociation, PublishedParts.IsPublishedSchedule, RecordKeys.tiploc_key}
-use Rattle.cif_feed.specs.{SpellsFeed.FeedParts, SpellsFeed.SpellFeed}
-use Rattle.cif_feed.specs.FeedFault.{IsFeedFault, IsOfFeed, is_feed_read}
+use Rattle.cif_feed.specs.{FeedFault.IsFeedFault, FeedFault.IsOfFeed, FeedFault.is_feed_read, SpellsFeed.FeedParts, SpellsFeed.SpellFeed}
 use Rattle.cif_feed.specs.declared.changes.Action.TheVariants.{New, Revised, Deleted}
 use Rattle.cif_feed.specs.declared.{changes.RecordChange.RecordChange, feed_fault.FeedFault.FeedFault, feed_line.Feed.TheVariants.Update}
 use Rattle.cif_feed.specs.declared.{mark.RecordMark.RecordMark, mark.TiplocMark.TiplocMark, mark.Transaction.Transaction}

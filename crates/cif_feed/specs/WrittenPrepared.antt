@@ -3,12 +3,11 @@ use Rattle.std.specs.Prelude.{Bool, Err, IsSomeAnd, List, Ok, Option, Result, []
 use Rattle.cif_columns.specs.{Sink.HasFailed, Sink.HasWritten, Source.Unread, declared.sink.Sink.Sink}
 use Rattle.cif_extract.specs.{ExtractParts.ExtractParts, ReadCall.ReadCall, ReadCall.reading, SpellsExtract.BytesSpell, Texts.extract_text}
 use Rattle.cif_extract.specs.declared.fault.Fault.TheVariants.{Memory, Write}
-use Rattle.cif_feed.specs.{Dropped.AreDropped, PreparedParts.IsPrepared}
+use Rattle.cif_feed.specs.{Dropped.AreDropped, PreparedParts.IsPrepared, declared.published_extract.PublishedExtract.PublishedExtract}
 use Rattle.cif_feed.specs.FeedFault.{IsFailure, IsFeedFault, IsOfFeed, is_feed_read}
 use Rattle.cif_feed.specs.PublishedParts.{BytesSpellPublished, IsPublishedOf, PublishedParts}
 use Rattle.cif_feed.specs.declared.{dropped.Dropped.Dropped, feed_fault.FeedFault.FeedFault, feed_fault.FeedFault.TheVariants.Extract}
 use Rattle.cif_feed.specs.declared.{feed_line.Feed.TheVariants.Full, holidays.HolidayCodes.HolidayCodes, holidays.Holidays.Holidays}
-use Rattle.cif_feed.specs.declared.{published_extract.PublishedExtract.PublishedExtract}
 
 -- the codes that the holidays name, which may stand in the published extract
 abbrev pub codes_named : Holidays → HolidayCodes

@@ -1,7 +1,6 @@
 -- The reasons to refuse a line's fields, in column order.
 use Rattle.std.specs.Prelude.{Bool, Err, List, None, Ok, Option, Result, Some, [], codes, if◌then◌else◌, is_some, nat_le, not, slice_index}
-use Rattle.std.specs.Prelude.{true, ℕ, ◌∷◌, ◌≡◌}
-use Rattle.std.specs.{Option.option_or, Str.bytes_eq}
+use Rattle.std.specs.{Option.option_or, Prelude.true, Prelude.ℕ, Prelude.◌∷◌, Prelude.◌≡◌, Str.bytes_eq}
 use Rattle.cif_columns.specs.{Day.ddmmyy_in, Day.yymmdd_in, DaysRun.days_of, Field.columns, PublicTime.public_time_in, Stp.stp_in}
 use Rattle.cif_columns.specs.{WorkTime.work_time_in, declared.refusal.Refusal.Refusal, declared.refusal.Refusal.TheVariants.OpenEnd}
 use Rattle.cif_columns.specs.{declared.refusal.Refusal.TheVariants.UnknownRecord}

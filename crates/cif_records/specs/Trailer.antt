@@ -1,7 +1,6 @@
 -- ZZ: the trailer, its columns, and the reason to refuse one.
 use Rattle.std.specs.Prelude.{ℕ, List, [], ◌∷◌, Option, codes}
-use Rattle.cif_columns.specs.Field.{Row, row, exactly, spare}
-use Rattle.cif_columns.specs.declared.refusal.Refusal.{Refusal}
+use Rattle.cif_columns.specs.{Field.Row, Field.exactly, Field.row, Field.spare, declared.refusal.Refusal.Refusal}
 use Rattle.cif_records.specs.Checks.{first_of, identity_refusal}
 
 -- the columns of a trailer

@@ -11,8 +11,7 @@ pub use Rattle.cif_extract.specs.ReadCall.{ReadCall}
 pub use Rattle.cif_feed.proofs.Names.{BytesSpellWithin, Clash, ExtractParts, HasFailed, HasWritten, HaveReasons, IfOk-weaker, IsJudgedFault}
 pub use Rattle.cif_feed.proofs.Names.{IsResultOf, Makes, Refuses, Sink, Source, StandsInYymmdd, Unread, Writes, at_drop_more, extract_parts}
 pub use Rattle.cif_feed.proofs.Names.{failed_second, goes-on, hands-on, judging, known_so, reader_of, reported_text, unread_of}
-pub use Rattle.cif_feed.proofs.Names.{written_both}
-pub use Rattle.cif_feed.specs.FeedAnswer.{IsHandedOn}
+pub use Rattle.cif_feed.{proofs.Names.written_both, specs.FeedAnswer.IsHandedOn}
 pub use Rattle.cif_canon.proofs.Names.{AreDifferences, AreNone, CanonParts, DifferencesParts, Fault, FaultWrites, Form, HasCanon, IfWritten}
 pub use Rattle.cif_canon.proofs.Names.{IsCanonOfInput, IsCompareFault, IsNormaliseFault, IsOfReadNarrowed, IsOfReading, IsReadNarrowedFault}
 pub use Rattle.cif_canon.proofs.Names.{IsResultOfBoth, SpellsNarrowed, Write, at-fault, err_from_is_err_and, hands, hands-either, is_read}
@@ -21,8 +20,7 @@ pub use Rattle.cif_canon.specs.{Comparison.AreCompared, Comparison.comparison_li
 pub use Rattle.cif_canon.specs.{Fault.IsOfNormalise, Views.IsDayFault, Views.IsTrainFault, declared.asked.Asked.Asked}
 pub use Rattle.cif_canon.proofs.Normalising.{canon-blamed, canon-fault, is-normalised, narrowed-fault, of-canon}
 pub use Rattle.cif_views.proofs.Names.{AreAllClashes, ExtractLines, Format, IsExplanation, IsWeekCalendar, at_drop_all, clashes_text}
-pub use Rattle.cif_views.proofs.Names.{table_text}
-pub use Rattle.cif_views.specs.WeekCalendar.{IsWeekCalendarFault}
+pub use Rattle.cif_views.{proofs.Names.table_text, specs.WeekCalendar.IsWeekCalendarFault}
 pub use Rattle.cif_tool.specs.Answer.{Answers, AreAnswered, AreComparedAs, CalendarJob, CanonicalJob, CompareJob, DayJob, ExplainJob}
 pub use Rattle.cif_tool.specs.Answer.{Finishes, IfAnswered, IsAnswered, IsCalendarAnswer, IsCanonicalAnswer, IsCheckAllAnswer}
 pub use Rattle.cif_tool.specs.Answer.{IsCheckAllFault, IsClashesAnswer, IsClashlessRefusal, IsCompareAnswer, IsDayAnswer, IsDayRefusal}

@@ -9,12 +9,11 @@ use Rattle.cif_views.specs.declared.{listing.Listing.Listing, tables.Table.Table
 use Rattle.cif_views.specs.declared.tables.Table.TheVariants as table
 use Rattle.cif_columns.specs.{Day.StandsInYymmdd, Uid.IsUid}
 use Rattle.cif_weeks.specs.declared.{form.Form.Form, form.Form.TheVariants.One, form.Form.TheVariants.Two}
-use Rattle.cif_tool.specs.CommandLine.{AreChoices, chosen, faults_of}
+use Rattle.cif_tool.specs.{CommandLine.AreChoices, CommandLine.chosen, CommandLine.faults_of, declared.job.Job.TheVariants.Train}
 use Rattle.cif_tool.specs.declared.{command_line.Choices.Choices, job.FeedJob.FeedJob, job.FeedJob.TheVariants.Prepare}
 use Rattle.cif_tool.specs.declared.{job.FeedJob.TheVariants.Update, job.InputNames.InputNames, job.Job.Job, job.Request.Request}
 use Rattle.cif_tool.specs.declared.{job.Task.Task, job.Task.TheVariants.Extract, job.Task.TheVariants.Feed}
 use Rattle.cif_tool.specs.declared.job.Job.TheVariants.{Calendar, Check, CheckAll, Clashes, Compare, Day, Diff, Explain, Normalise, Table}
-use Rattle.cif_tool.specs.declared.job.Job.TheVariants.{Train}
 
 -- The word of this id. `clap` misses none that is required; one that is missing counts as empty.
 abbrev pub required_word : Text → List Row → Text

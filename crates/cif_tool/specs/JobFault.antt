@@ -2,9 +2,8 @@
 use Rattle.std.specs.Prelude.{Err, IfErr, IfOk, IsSomeAnd, List, None, Ok, Option, Result, Some, [], codes, if◌then◌else◌, string_bytes, ℕ}
 use Rattle.std.specs.Prelude.{⊤, ◌<◌, ◌∷◌, ◌≡◌, ◌≢◌, ◌⊎◌}
 use Rattle.std.specs.Str.{bytes_eq}
-use Rattle.clap.specs.Words.{IsAmong, Row, Text, first_of}
+use Rattle.clap.specs.{Words.IsAmong, Words.Row, Words.Text, Words.first_of, declared.error.ErrorKind.TheVariants.DisplayVersion}
 use Rattle.clap.specs.declared.{error.ErrorKind.ErrorKind, error.ErrorKind.TheVariants.DisplayHelp}
-use Rattle.clap.specs.declared.{error.ErrorKind.TheVariants.DisplayVersion}
 use Rattle.cif_columns.{specs.Day.StandsInYymmdd, specs.Uid.IsUid, specs.declared.sink.Sink.Sink, specs.declared.sink.WriteFault.WriteFault}
 use Rattle.cif_columns.specs.Sink.{HasFailed, HasWritten, Writes}
 use Rattle.cif_extract.specs.declared.{fault.Fault.Fault, fault.Fault.TheVariants.Write}

@@ -1,9 +1,8 @@
 -- The statuses that the program exits with, and what it tells of a fault.
 use Rattle.std.specs.Prelude.{Bool, Err, List, Ok, Option, Result, false, true, ℕ, ◌≡◌}
 use Rattle.cif_columns.specs.{Sink.Writes, declared.sink.Sink.Sink, declared.sink.WriteFault.WriteFault}
-use Rattle.cif_extract.specs.declared.fault.Fault.{Fault}
+use Rattle.cif_extract.specs.declared.{fault.Fault.Fault, fault.Fault.TheVariants.WindowsDiffer, fault.Fault.TheVariants.Write}
 use Rattle.cif_extract.specs.declared.fault.Fault.TheVariants.{Ambiguous, Memory, OutsideWindow, Read, Refused, WindowReversed}
-use Rattle.cif_extract.specs.declared.fault.Fault.TheVariants.{WindowsDiffer, Write}
 use Rattle.cif_canon.{specs.Report.fault_line, specs.declared.comparison.Comparison.Comparison}
 use Rattle.cif_canon.specs.declared.comparison.Comparison.TheVariants.{Association, Same, Tiploc, Train}
 

@@ -1,7 +1,6 @@
 -- The rows of associations, and of what is explained, have all fields; and those of records have all columns.
 use Rattle.cif_views.proofs.Names.{List, [], ap, append-nil, append_assoc, columns, drop, drop-drop, refl, sym, take, take-add, ℕ, ◌++◌}
-use Rattle.cif_views.proofs.Names.{◌+◌, ◌∙◌, ◌∷◌, ◌≡◌}
-use Rattle.cif_views.specs.AllFields.{TablesHaveColumns}
+use Rattle.cif_views.{proofs.Names.◌+◌, proofs.Names.◌∙◌, proofs.Names.◌∷◌, proofs.Names.◌≡◌, specs.AllFields.TablesHaveColumns}
 
 -- pieces of so many columns, one behind another, and then the rest
 module _ (line : List ℕ) where

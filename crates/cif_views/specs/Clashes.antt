@@ -1,7 +1,6 @@
 -- All clashes of an extract, and the lines that name them.
 pub use Rattle.cif_calendar.specs.AllClashes.{AreAllClashes}
-use Rattle.std.specs.Prelude.{ℕ, List, ◌++◌, codes}
-use Rattle.std.specs.List.{flat_map}
+use Rattle.std.specs.{List.flat_map, Prelude.List, Prelude.codes, Prelude.ℕ, Prelude.◌++◌}
 use Rattle.cif_extract.specs.{Clash.clash_text, declared.fault.Clash.Clash}
 
 -- the line of a clash: what the fault line of a clash says of it, with its line feed

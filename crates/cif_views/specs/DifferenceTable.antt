@@ -3,11 +3,10 @@ use Rattle.std.specs.Prelude.{ℕ, List, [], ◌∷◌, ◌++◌, Bool, None, So
 use Rattle.std.specs.{Cmp.Lexicographic.pointwise, List.filter, List.flat_map}
 use Rattle.cif_columns.specs.Field.{columns}
 use Rattle.cif_canon.specs.{Differences.DifferencesParts, Lines.ScheduleLines}
-use Rattle.cif_canon.specs.Fields.{Field, line_of, nothing, shown}
+use Rattle.cif_canon.specs.{Fields.Field, Fields.line_of, Fields.nothing, Fields.shown, declared.rows.Shape.TheVariants.Trimmed}
 use Rattle.cif_canon.specs.Pairs.{Listed, association_lines, schedule_lines, tiploc_lines}
 use Rattle.cif_canon.specs.declared.{listed_differences.Side.Side, listed_differences.Side.TheVariants.Left}
 use Rattle.cif_canon.specs.declared.{listed_differences.Side.TheVariants.Right, listed_differences.Sided.Sided, rows.Format.TheVariants.Tsv}
-use Rattle.cif_canon.specs.declared.{rows.Shape.TheVariants.Trimmed}
 use Rattle.cif_views.specs.Tables.{Numbered, TableFields, category_fields, date_at, detail_fields, extra_fields, extra_identity, extra_in}
 use Rattle.cif_views.specs.Tables.{is_call, is_change, is_extra, kind_of_line, names_line, number, numbered_from, own_call_fields}
 use Rattle.cif_views.specs.Tables.{own_change_fields, text_at, type_fields, whole_at}

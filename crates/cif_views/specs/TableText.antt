@@ -1,6 +1,5 @@
 -- The text of a table: its first line, and its rows.
-use Rattle.std.specs.Prelude.{ℕ, List, [], ◌++◌}
-use Rattle.std.specs.List.{enumerate_from, flat_map}
+use Rattle.std.specs.{List.enumerate_from, List.flat_map, Prelude.List, Prelude.[], Prelude.ℕ, Prelude.◌++◌}
 use Rattle.cif_canon.specs.Lines.{ExtractLines, ScheduleLines}
 use Rattle.cif_views.specs.{PublicCalls.public_fields, Steps.PublicCalls.public_calls, declared.tables.Table.Table}
 use Rattle.cif_views.specs.Tables.{association_fields, call_fields, calls_of, change_fields, changes_of, header_fields, heading}

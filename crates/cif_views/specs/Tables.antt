@@ -4,8 +4,7 @@ use Rattle.std.specs.{List.filter, List.join_with_byte, Prelude.◌∷◌}
 use Rattle.cif_columns.specs.Field.{columns, columns_from}
 use Rattle.cif_records.specs.{Kind.kind_in, declared.record.Kind.Kind}
 use Rattle.cif_records.specs.declared.record.Kind.TheVariants.{Bx, Cr, Li, Lo, Lt}
-use Rattle.cif_canon.specs.Fields.{Field, line_of, nothing}
-use Rattle.cif_canon.specs.{Lines.ScheduleLines, declared.rows.Format.TheVariants.Tsv}
+use Rattle.cif_canon.specs.{Fields.Field, Fields.line_of, Fields.nothing, Lines.ScheduleLines, declared.rows.Format.TheVariants.Tsv}
 use Rattle.cif_canon.specs.declared.rows.Shape.TheVariants.{Date, Trimmed, Whole}
 use Rattle.cif_views.specs.declared.columns.JourneyKind.{JourneyKind}
 use Rattle.cif_views.specs.declared.columns.JourneyKind.TheVariants.{Change, Origin, Other, Stop, Terminus}

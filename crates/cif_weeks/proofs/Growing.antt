@@ -1,8 +1,7 @@
 -- A record starts with one week, and grows by the next week where the two agree.
 use Rattle.cif_weeks.proofs.Names.{Bool, Fits, Form, IsGrown, IsLastDay, IsMask, IsWithin, List, MasksAgree, One, Permanent, RunsOn, Two}
 use Rattle.cif_weeks.proofs.Names.{Window, ap, arith, cases_lt, inl, inr, length, refl, subst, sym, week_of, weekday_of, ℕ, ◌+◌, ◌-◌, ◌↔◌}
-use Rattle.cif_weeks.proofs.Names.{◌∙◌, ◌≡◌, ◌≤◌, ◌⊎◌}
-use Rattle.cif_weeks.proofs.Masks.{last_latest, last_runs, mask_runs}
+use Rattle.cif_weeks.proofs.{Masks.last_latest, Masks.last_runs, Masks.mask_runs, Names.◌∙◌, Names.◌≡◌, Names.◌≤◌, Names.◌⊎◌}
 use Rattle.cif_weeks.proofs.WeekDays.{RunsOn-below, day_rises, week_of-next, weekday_of-next}
 
 module _ (window : Window) (on : ℕ → Type 0) where

@@ -3,11 +3,10 @@ use Rattle.cif_weeks.proofs.Names.{AreLawful, AreRunsOfMembers, AreRunsOfSpans, 
 use Rattle.cif_weeks.proofs.Names.{Contains-push, Contains-push_cases, Form, IsChosen, IsMembersRun, IsMembersSpan, IsSourceAmong, IsSpanOf}
 use Rattle.cif_weeks.proofs.Names.{IsWithin, List, None, Option, Run, Shows, Some, Span, Terms, Window, Wins, [], ap, arith, body_at, false}
 use Rattle.cif_weeks.proofs.Names.{inl, inr, is_some, option_and_then, refl, same_Some, slice_get, subst, sym, true, ℕ, ⊎_elim, ◌++◌, ◌∙◌}
-use Rattle.cif_weeks.proofs.Names.{◌∷◌, ◌≡◌, ◌⊎◌}
+use Rattle.cif_weeks.{proofs.Names.◌∷◌, proofs.Names.◌≡◌, proofs.Names.◌⊎◌, specs.Steps.BodyRuns.HasBody}
 use Rattle.cif_calendar.specs.Applies.{Applies}
 use Rattle.cif_weeks.proofs.{JoinedLists.zip-with, Meeting.have_form, Meeting.say, MemberClash.leads-winner}
 use Rattle.cif_weeks.proofs.SpanRecords.{HaveBodies, IsBodysRun, Shown, in-order, one-body, records-of, records-rising}
-use Rattle.cif_weeks.specs.Steps.BodyRuns.{HasBody}
 
 -- one member more, at this position, and the spans before it
 module _ {B : Type 0} (xs : List (Terms B)) (members : List ℕ) (window : Window) (spans : List Span)

@@ -12,8 +12,7 @@ pub use Rattle.std.proofs.lemmas.List.Sorted.{IsPermutation-reverse, IsPermutati
 pub use Rattle.std.specs.List.{AllWithin, AllZip, refill}
 pub use Rattle.std.specs.{List.Sorted.IsNonDecreasingBy, List.Sorted.IsPartitionPoint, Ordering.ordering_then, Ordering.partial_lt}
 pub use Rattle.cif_columns.proofs.Names.{All-append, All-cons, All-head, All-tail, IsDay, IsFirstOf, IsLastOf, reverse-append}
-pub use Rattle.cif_columns.proofs.Names.{reverse-reverse, take-append_seam}
-pub use Rattle.cif_columns.specs.Day.{week_of}
+pub use Rattle.cif_columns.{proofs.Names.reverse-reverse, proofs.Names.take-append_seam, specs.Day.week_of}
 pub use Rattle.cif_calendar.proofs.{Elements.Contains-cases, Elements.Contains-first, Elements.Contains-rest, PieceLists.source_at-piece}
 pub use Rattle.cif_calendar.proofs.{PieceLists.tiles-ends, PieceLists.tiles-from, Positions.AreLawful-chosen, Positions.at-contains}
 pub use Rattle.cif_calendar.proofs.{Positions.contains-at, Winning.terms_at}
@@ -39,8 +38,7 @@ pub use Rattle.cif_weeks.specs.Steps.Growing.{Breaks, Fits, IsApartFrom, IsGrown
 pub use Rattle.cif_weeks.specs.Steps.PieceSpans.{AreBySource, AreInOrder, AreNear, AreSpansBefore, AreSpansOn, HasBodyOn, IsPieceSpan}
 pub use Rattle.cif_weeks.specs.Steps.PieceSpans.{IsWinnerOn, body_in, named, source_in}
 pub use Rattle.cif_weeks.specs.Steps.Spans.{AgreeOn, AreSpansOf, HasDay, HaveOneMask, IsAgreed, IsDisputed, IsMembersSpan, IsSourceAmong}
-pub use Rattle.cif_weeks.specs.Steps.Spans.{IsSpanOf, Leads, Shows, SomeOf}
+pub use Rattle.cif_weeks.specs.{Steps.Spans.IsSpanOf, Steps.Spans.Leads, Steps.Spans.Shows, Steps.Spans.SomeOf, declared.span.Weeks.Weeks}
 pub use Rattle.cif_weeks.specs.Steps.WeekMasks.{Counts, IsLastDay, IsMask, MasksAgree, MasksDiffer}
 pub use Rattle.cif_weeks.specs.Window.{IsWithin, Window, window_days, window_from}
 pub use Rattle.cif_weeks.specs.declared.{form.Form.Form, form.Form.TheVariants.One, form.Form.TheVariants.Two, form.Run.Run, span.Span.Span}
-pub use Rattle.cif_weeks.specs.declared.{span.Weeks.Weeks}

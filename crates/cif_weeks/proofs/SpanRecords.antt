@@ -5,8 +5,7 @@ use Rattle.cif_weeks.proofs.Names.{Terms, Window, [], ap, arith, at-contains, bo
 use Rattle.cif_weeks.proofs.Names.{get_or_from_slice_get, record_of, refl, same_Some, slice_get, slice_get-get_or, slice_get_within, subst}
 use Rattle.cif_weeks.proofs.Names.{sym, week_of, ℕ, ⊎_elim, ◌+◌, ◌<◌, ◌∙◌, ◌∷◌, ◌≡◌, ◌≤◌}
 use Rattle.cif_weeks.proofs.Grown.{grown_aligned, grown_applies, grown_change, grown_near, grown_runs}
-use Rattle.cif_weeks.proofs.{JoinedLists.zip-at, JoinedLists.zip-back, Meeting.MeetsInOrder}
-use Rattle.cif_weeks.specs.Steps.BodyRuns.{HasBody}
+use Rattle.cif_weeks.{proofs.JoinedLists.zip-at, proofs.JoinedLists.zip-back, proofs.Meeting.MeetsInOrder, specs.Steps.BodyRuns.HasBody}
 
 -- a span with this body leads on day n, or one without a body
 pub record Shown {B : Type 0} (xs : List (Terms B)) (spans : List Span) (body : Option B) (n : ℕ) : Type 0 where

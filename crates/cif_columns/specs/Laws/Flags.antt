@@ -1,7 +1,6 @@
 -- A set of weekdays by the bits of a number: the number is that of its flags.
 use Rattle.std.proofs.Common.{◌≡◌, ℕ, ◌<◌, cond, arith}
-use Rattle.std.proofs.lemmas.Bool.Decides.{nat_tests}
-use Rattle.std.specs.Int.{bit_at}
+use Rattle.std.{proofs.lemmas.Bool.Decides.nat_tests, specs.Int.bit_at}
 use Rattle.cif_columns.specs.DaysRun.{flag, flags, bits_of}
 
 -- a flag as a number

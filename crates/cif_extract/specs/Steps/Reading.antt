@@ -11,11 +11,10 @@ use Rattle.cif_extract.specs.declared.fault.Fault.TheVariants as fault
 use Rattle.cif_extract.specs.declared.place.Place.TheVariants as at
 use Rattle.cif_extract.specs.declared.reading.TakeFault.TheVariants as untaken
 use Rattle.cif_records.specs.{Basic.terms_of, Bodies.has_body, Detail.detail_table, Stop.SpellsStop, Stop.stop_table}
-use Rattle.cif_records.specs.Record.{IsPlainAs, record_table, SpellsRecord}
+use Rattle.cif_records.specs.{Record.IsPlainAs, Record.SpellsRecord, Record.record_table, declared.tiploc.Tiploc.Tiploc}
 use Rattle.cif_records.specs.declared.{association.Association.Association, basic.Basic.Basic, basic.BasicTerms.BasicTerms}
 use Rattle.cif_records.specs.declared.{detail.Detail.Detail, extra.Extra.Extra, header.Header.Header, origin.Origin.Origin}
 use Rattle.cif_records.specs.declared.{record.Kind.Kind, record.Record.Record, stop.Stop.Stop, terminus.Terminus.Terminus}
-use Rattle.cif_records.specs.declared.{tiploc.Tiploc.Tiploc}
 use Rattle.cif_records.specs.declared.record.Kind.TheVariants.{Bx, Lo, Li, Cr, Lt}
 use Rattle.cif_records.specs.declared.record.Record.TheVariants as of
 

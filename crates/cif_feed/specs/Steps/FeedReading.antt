@@ -8,8 +8,7 @@ use Rattle.cif_extract.specs.{declared.reading.TakeFault.TheVariants.Memory, dec
 use Rattle.cif_records.specs.{Kind.kind_in, declared.record.Kind.Kind}
 use Rattle.cif_records.specs.declared.record.Kind.TheVariants.{Hd, Ti, Ta, Td, Aa, Bs}
 use Rattle.cif_feed.specs.{FeedLayouts.feed_layouts, FeedLine.SpellsInFeed, FeedRefusal.line_refusal, Marks.mark_parts, Marks.marks_in}
-use Rattle.cif_feed.specs.{Steps.Marks.mark_of}
-use Rattle.cif_feed.specs.RecordLines.{is_basic, is_trailer, record_lines}
+use Rattle.cif_feed.specs.{RecordLines.is_basic, RecordLines.is_trailer, RecordLines.record_lines, Steps.Marks.mark_of}
 use Rattle.cif_feed.specs.declared.{feed_line.Feed.Feed, feed_line.Feed.TheVariants.Update, feed_reading.FeedReading.FeedReading}
 use Rattle.cif_feed.specs.declared.{holidays.HolidayCodes.HolidayCodes, mark.LineMark.LineMark, mark.Passed.Passed}
 

@@ -3,11 +3,9 @@ use Rattle.std.specs.Prelude.{Bool, List, [], codes, cond, drop, false, if◌the
 use Rattle.std.specs.Prelude.{ℕ, ◌&&◌, ◌++◌, ◌+◌, ◌∷◌}
 use Rattle.std.specs.{Cmp.Lexicographic.pointwise, List.flat_map}
 use Rattle.cif_columns.specs.Field.{columns}
-use Rattle.cif_canon.specs.Fields.{Field, after, nothing, shown}
-use Rattle.cif_canon.specs.declared.rows.Format.TheVariants.{Tsv}
-use Rattle.cif_views.specs.DifferenceTable.{text}
+use Rattle.cif_canon.specs.{Fields.Field, Fields.after, Fields.nothing, Fields.shown, declared.rows.Format.TheVariants.Tsv}
+use Rattle.cif_views.specs.{DifferenceTable.text, Tables.is_call, Tables.is_change, Tables.kind_of_line, Tables.number}
 use Rattle.cif_views.specs.Steps.Columns.{Column, call_columns, change_columns, field_in, fields_in, is_within, row_behind}
-use Rattle.cif_views.specs.Tables.{is_call, is_change, kind_of_line, number}
 use Rattle.cif_views.specs.declared.{columns.FieldPlace.FieldPlace, columns.JourneyKind.JourneyKind, columns.JourneyKind.TheVariants.Other}
 use Rattle.cif_views.specs.declared.columns.FieldPlace.TheVariants.{Call, Date, DayFirst, Nowhere, Text, Whole}
 

@@ -1,6 +1,5 @@
 -- The positions so far are those of the key.
-use Rattle.cif_calendar.proofs.Names.{All, keyed, length, ◌<◌}
-use Rattle.cif_calendar.proofs.KeyMembers.{ArePositionsBefore}
+use Rattle.cif_calendar.proofs.{KeyMembers.ArePositionsBefore, Names.All, Names.keyed, Names.length, Names.◌<◌}
 use Rattle.cif_calendar.proofs.by_key.positions_of_key.Given as goal
 
 abbrev pub invariant-loop-position : goal.invariant-loop-position

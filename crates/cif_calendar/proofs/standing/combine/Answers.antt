@@ -1,6 +1,5 @@
 -- The lesser letter leads; where neither is less, both are the same.
-use Rattle.cif_calendar.proofs.Names.{IsRank, arith, subst, ◌≡◌}
-use Rattle.cif_calendar.proofs.Winning.{combines_first, combines_second}
+use Rattle.cif_calendar.proofs.{Names.IsRank, Names.arith, Names.subst, Names.◌≡◌, Winning.combines_first, Winning.combines_second}
 use Rattle.cif_calendar.proofs.standing.combine.Goals as goal
 
 pub returns-then-rank_of_one-rank_of_other-clause-stands : goal.returns-then-rank_of_one-rank_of_other-clause-stands

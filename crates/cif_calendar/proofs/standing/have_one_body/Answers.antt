@@ -1,8 +1,7 @@
 -- A link leads to a member with the same body (`falling-next`), and so do two (`alike-noted`).
 use Rattle.cif_calendar.proofs.Names.{HaveOneBody, IsTrue, ap, body_at, refl, slice_get, sym, ◌↔◌, ◌∙◌}
-use Rattle.cif_calendar.proofs.Bodies.{alike-noted, falling-next, one-body}
+use Rattle.cif_calendar.proofs.{Bodies.alike-noted, Bodies.falling-next, Bodies.one-body, standing.have_one_body.Given.Over}
 use Rattle.cif_calendar.proofs.standing.have_one_body.Goals as goal
-use Rattle.cif_calendar.proofs.standing.have_one_body.Given.{Over}
 use Rattle.cif_calendar.proofs.standing.have_one_body.Goals.{After-same_body-same, in-Some-known, in_default-known}
 
 pub loop-init : goal.loop-init

@@ -1,6 +1,5 @@
 -- Of one letter: two leaders agree or differ (`leaders_agree`, `leaders_differ`), and who is disputed stays so.
-use Rattle.cif_calendar.proofs.Names.{iff_false}
-use Rattle.cif_calendar.proofs.Winning.{first-stays, leaders_agree, leaders_differ, other-stays}
+use Rattle.cif_calendar.proofs.{Names.iff_false, Winning.first-stays, Winning.leaders_agree, Winning.leaders_differ, Winning.other-stays}
 use Rattle.cif_calendar.proofs.standing.level.Goals as goal
 
 pub returns-in_default-clause-stands : goal.returns-in_default-clause-stands

@@ -1,6 +1,5 @@
 -- The winners so far are those of the days before `day`, which are clear; `day` is as many days behind the first as the loop went round.
-use Rattle.cif_calendar.proofs.Names.{length, ◌+◌, ◌≡◌, ◌≤◌}
-use Rattle.cif_calendar.proofs.UnbrokenStretches.{IsWeekFrom}
+use Rattle.cif_calendar.proofs.{Names.length, Names.◌+◌, Names.◌≡◌, Names.◌≤◌, UnbrokenStretches.IsWeekFrom}
 use Rattle.cif_calendar.proofs.stretch.judge.Given as goal
 
 abbrev pub invariant-loop : goal.invariant-loop

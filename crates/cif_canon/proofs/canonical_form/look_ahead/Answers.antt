@@ -1,8 +1,7 @@
 -- Each run has a record, and so the schedule at its source has a body (`has-body`).
 use Rattle.cif_canon.proofs.Names.{HasRecord, Schedule, ap, false≢true, schedule_entries, schedule_entry, subst, sym, ◌∙◌}
-use Rattle.cif_canon.proofs.{RunTexts.has-body, RunTexts.record-within}
+use Rattle.cif_canon.proofs.{RunTexts.has-body, RunTexts.record-within, canonical_form.look_ahead.Goals.in_default-via-in_default}
 use Rattle.cif_canon.proofs.{canonical_form.look_ahead.Goals.in_default-via-in-Some+else-prefetch}
-use Rattle.cif_canon.proofs.{canonical_form.look_ahead.Goals.in_default-via-in_default}
 use Rattle.cif_canon.proofs.canonical_form.look_ahead.Goals as goal
 
 pub body_of-requires : goal.body_of-requires

@@ -1,6 +1,5 @@
 -- Two groups of fields go behind the first field (`two-groups`): they are rewritten from the last on.
-use Rattle.cif_canon.proofs.Names.{Trimmed, association_fields, codes, no_train}
-use Rattle.cif_canon.proofs.ViewLines.{two-groups}
+use Rattle.cif_canon.proofs.{Names.Trimmed, Names.association_fields, Names.codes, Names.no_train, ViewLines.two-groups}
 use Rattle.cif_canon.proofs.rows.association_row.Goals as goal
 
 pub returns-clause-text : goal.returns-clause-text

@@ -1,6 +1,5 @@
 -- Two groups of fields go behind the first field (`two-groups`): they are rewritten from the last on.
-use Rattle.cif_canon.proofs.Names.{Trimmed, codes, no_association, train_fields}
-use Rattle.cif_canon.proofs.ViewLines.{two-groups}
+use Rattle.cif_canon.proofs.{Names.Trimmed, Names.codes, Names.no_association, Names.train_fields, ViewLines.two-groups}
 use Rattle.cif_canon.proofs.rows.train_row.Goals as goal
 
 pub returns-clause-text : goal.returns-clause-text

@@ -1,8 +1,7 @@
 -- Each pair of the table has the digits of its place (`are_pairs`, which computes).
 use Rattle.cif_columns.proofs.Names.{Bool, T, arith, eq-zero-or-pos, eqb, eqb→eq, get_or, inl, inr, suc, true, zero, ℕ, ◌%◌, ◌&&◌, ◌*◌, ◌+◌}
-use Rattle.cif_columns.proofs.Names.{◌-◌, ◌/◌, ◌<◌, ◌≡◌}
+use Rattle.cif_columns.{proofs.Names.◌-◌, proofs.Names.◌/◌, proofs.Names.◌<◌, proofs.Names.◌≡◌, specs.declared.day.TheConstants.PAIRS}
 use lib.Ieee.Fits.{and_l, and_r}
-use Rattle.cif_columns.specs.declared.day.TheConstants.{PAIRS}
 use Rattle.cif_columns.proofs.day.digits_of.Goals as goal
 
 abbrev are_pairs : ℕ → Bool

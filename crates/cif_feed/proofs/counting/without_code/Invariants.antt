@@ -1,6 +1,5 @@
 -- Of the positions so far those without the code are there.
-use Rattle.cif_feed.proofs.Names.{HasCodeAt, [], take, ℕ}
-use Rattle.cif_feed.proofs.CountedClashes.{AreAlso}
+use Rattle.cif_feed.proofs.{CountedClashes.AreAlso, Names.HasCodeAt, Names.[], Names.take, Names.ℕ}
 use Rattle.cif_feed.proofs.counting.without_code.Given as goal
 
 abbrev pub invariant-loop-position : goal.invariant-loop-position

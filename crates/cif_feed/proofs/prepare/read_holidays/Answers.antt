@@ -1,7 +1,6 @@
 -- The source of holidays is read, and a fault is reported as one of feeds.
-use Rattle.cif_feed.proofs.{Names.refl, PreparedRead.as-feed, PreparedRead.fault-as-feed}
+use Rattle.cif_feed.{proofs.Names.refl, proofs.PreparedRead.as-feed, proofs.PreparedRead.fault-as-feed, specs.FeedFault.of_holiday_fault}
 use Rattle.cif_extract.proofs.ReadCalls.{at-fault}
-use Rattle.cif_feed.specs.FeedFault.{of_holiday_fault}
 use Rattle.cif_feed.proofs.prepare.read_holidays.Goals as goal
 
 pub returns-in_ok-read-in-Some : goal.returns-in_ok-read-in-Some

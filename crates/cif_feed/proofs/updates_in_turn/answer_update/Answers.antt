@@ -1,6 +1,5 @@
 -- An update that isn't done is reported by `undone-answer` and its like; a text that is written, or isn't, by `ended-answer`.
-use Rattle.cif_feed.proofs.Names.{[], published_parts, refl}
-use Rattle.cif_feed.specs.FeedAnswer.{reported_of}
+use Rattle.cif_feed.{proofs.Names.[], proofs.Names.published_parts, proofs.Names.refl, specs.FeedAnswer.reported_of}
 use Rattle.cif_extract.proofs.ReadCalls.{at-fault}
 use Rattle.cif_feed.proofs.UpdatesRead.{ended-answer, ended-reads, finished, undone-answer, undone-fault, undone-reads}
 use Rattle.cif_feed.proofs.updates_in_turn.answer_update.Goals as goal

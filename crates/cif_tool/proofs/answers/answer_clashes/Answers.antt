@@ -1,8 +1,7 @@
 -- What is written is an answer (`clashes-answer`); each call's faults are of known bytes.
 use Rattle.cif_tool.proofs.Names.{IsClashlessRefusal, MAX_LINES, Write, clashes_text, extract_parts, hands, listed_status, reading_narrowed}
-use Rattle.cif_tool.proofs.Names.{refl, subst, sym, ◌≢◌}
+use Rattle.cif_tool.proofs.{KnownAnswers.clashes-answer, KnownAnswers.clashless-fault, Names.refl, Names.subst, Names.sym, Names.◌≢◌}
 use Rattle.cif_tool.proofs.Answered.{ends, may-narrow, not-answered, nothing-of-input, text-shown}
-use Rattle.cif_tool.proofs.KnownAnswers.{clashes-answer, clashless-fault}
 use Rattle.cif_tool.proofs.answers.answer_clashes.Goals as goal
 
 pub returns-in_err-extract : goal.returns-in_err-extract

@@ -1,6 +1,5 @@
 -- With the arguments that are left, the subcommand takes all.
-use Rattle.cif_tool.proofs.Names.{drop, new_app, taken, taking}
-use Rattle.cif_tool.proofs.CommandBuilt.{IsTaking}
+use Rattle.cif_tool.proofs.{CommandBuilt.IsTaking, Names.drop, Names.new_app, Names.taken, Names.taking}
 use Rattle.cif_tool.proofs.command_line.with_parts.Given as goal
 
 abbrev pub invariant-loop-which : goal.invariant-loop-which

@@ -1,6 +1,5 @@
 -- The kind and the text are those of the error.
-use Rattle.cif_tool.proofs.Names.{ap, inr, ◌∙◌}
-use Rattle.cif_tool.specs.declared.job.JobFault.TheVariants.{Usage}
+use Rattle.cif_tool.{proofs.Names.ap, proofs.Names.inr, proofs.Names.◌∙◌, specs.declared.job.JobFault.TheVariants.Usage}
 use Rattle.cif_tool.proofs.words.fault_of_error.Goals as goal
 
 pub returns-in-Ok : goal.returns-in-Ok

@@ -1,7 +1,6 @@
 -- The same line has no row (`no-rows`).
-use Rattle.cif_views.proofs.Names.{bytes_decides, own_columns, sym, ◌∙◌}
+use Rattle.cif_views.proofs.{DifferingFields.no-rows, Names.bytes_decides, Names.own_columns, Names.sym, Names.◌∙◌}
 use Rattle.cif_canon.proofs.AppendedTexts.{nothing, text-is}
-use Rattle.cif_views.proofs.DifferingFields.{no-rows}
 use Rattle.cif_views.proofs.difference_table.write_place.Goals as goal
 
 pub returns-then-eq : goal.returns-then-eq

@@ -1,6 +1,5 @@
 -- The masks of the spans so far that are over the span, and of its rivals.
-use Rattle.cif_weeks.proofs.Names.{HasDay, HaveOneMask, SomeOf, take}
-use Rattle.cif_weeks.proofs.Spans.{IsOver, IsRival}
+use Rattle.cif_weeks.proofs.{Names.HasDay, Names.HaveOneMask, Names.SomeOf, Names.take, Spans.IsOver, Spans.IsRival}
 use Rattle.cif_weeks.proofs.body_runs.weeks_led.Given as goal
 
 abbrev pub invariant-loop-other : goal.invariant-loop-other

@@ -1,5 +1,4 @@
-use Rattle.cif_columns.proofs.Names.{and_le_l, arith, sym, ◌-◌}
-use Rattle.cif_columns.proofs.Flags.{runs-without}
+use Rattle.cif_columns.proofs.{Flags.runs-without, Names.and_le_l, Names.arith, Names.sym, Names.◌-◌}
 use Rattle.cif_columns.proofs.days_run.DaysRun.minus.Goals as goal
 
 pub returns : goal.returns

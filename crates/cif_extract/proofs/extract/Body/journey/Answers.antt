@@ -1,6 +1,5 @@
 -- The lines of a body are three at least (`first_line`).
-use Rattle.cif_extract.proofs.Names.{ap, arith, length, length-drop}
-use Rattle.cif_extract.proofs.Bodies.{first_line}
+use Rattle.cif_extract.proofs.{Bodies.first_line, Names.ap, Names.arith, Names.length, Names.length-drop}
 use Rattle.cif_extract.proofs.extract.Body.journey.Goals as goal
 
 pub rest-requires : goal.rest-requires

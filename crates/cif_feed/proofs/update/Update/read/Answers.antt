@@ -1,7 +1,6 @@
 -- What the lines say is one update (`makes-update`), unless memory runs out.
 use Rattle.cif_extract.{specs.declared.fault.Fault.TheVariants.Memory, proofs.ReadCalls.hands-either}
-use Rattle.cif_feed.proofs.Names.{Extract, Ok, goes-on, refl}
-use Rattle.cif_feed.proofs.SpelledFeeds.{makes-update}
+use Rattle.cif_feed.proofs.{Names.Extract, Names.Ok, Names.goes-on, Names.refl, SpelledFeeds.makes-update}
 use Rattle.cif_feed.proofs.update.Update.read.Goals as goal
 
 pub returns : goal.returns

@@ -1,7 +1,6 @@
 -- The side is shown by its sign (`shown-change`), and the row goes behind its first fields (`behind-row`).
 use Rattle.cif_views.proofs.Names.{Field, List, Trimmed, ap, change_of, drop, replicate, single_row, tiploc_head, ℕ, ◌∙◌}
-use Rattle.cif_canon.proofs.AppendedTexts.{text-is}
-use Rattle.cif_canon.specs.Fields.{nothing}
+use Rattle.cif_canon.{proofs.AppendedTexts.text-is, specs.Fields.nothing}
 use Rattle.cif_views.proofs.{PairedJourneys.shown-change, TableRows.behind-row}
 use Rattle.cif_views.proofs.difference_table.DifferenceTableTextsSidedTiploc.write.Goals as goal
 

@@ -1,8 +1,7 @@
 -- The row's fields and the calls are what is listed of the train (`with_first-lines`).
 use Rattle.cif_views.proofs.Names.{BodyLines, List, Trimmed, ap, codes, fields_text, first_field, no_association, row_lines, train_fields}
-use Rattle.cif_views.proofs.Names.{train_row, ℕ, ◌++◌, ◌∙◌}
+use Rattle.cif_views.proofs.{CallTexts.with_first-lines, Names.train_row, Names.ℕ, Names.◌++◌, Names.◌∙◌}
 use Rattle.cif_canon.proofs.AppendedTexts.{text-is}
-use Rattle.cif_views.proofs.CallTexts.{with_first-lines}
 use Rattle.cif_views.proofs.listing.ListedRowsDayLines.write_train.Goals as goal
 
 pub returns : goal.returns

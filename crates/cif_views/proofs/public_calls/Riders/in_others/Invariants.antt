@@ -1,6 +1,5 @@
 -- What was said so far, and what the activities in `rest` say, is what those in all columns say.
-use Rattle.cif_views.proofs.Names.{codes_in, length, said_by, ◌≡◌}
-use Rattle.cif_views.specs.Steps.PublicRows.{joined}
+use Rattle.cif_views.{proofs.Names.codes_in, proofs.Names.length, proofs.Names.said_by, proofs.Names.◌≡◌, specs.Steps.PublicRows.joined}
 use Rattle.cif_views.proofs.public_calls.Riders.in_others.Given as goal
 
 abbrev pub invariant-loop-rest : goal.invariant-loop-rest

@@ -1,6 +1,5 @@
 -- Which weekdays there are in the first week, the last, and those between is said of the span (`span-mask`).
-use Rattle.cif_weeks.proofs.Names.{arith, refl, sym, ◌∙◌}
-use Rattle.cif_weeks.proofs.Spans.{span-mask, week-alone}
+use Rattle.cif_weeks.proofs.{Names.arith, Names.refl, Names.sym, Names.◌∙◌, Spans.span-mask, Spans.week-alone}
 use Rattle.cif_weeks.proofs.span.Span.weeks_from.Goals as goal
 use Rattle.cif_weeks.proofs.span.Span.weeks_from.Goals.{else-is, else-week-self-3-via-else-week-self-3}
 use Rattle.cif_weeks.proofs.span.Span.weeks_from.Goals.{else-week-self-3-via-then-week-self-3+else-not-is, then-is}
