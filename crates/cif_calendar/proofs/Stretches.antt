@@ -146,6 +146,12 @@ module _ {B : Type 0} (xs : List (Terms B)) (members looked : List ℕ) (end : �
   stretches-push from to next [] s is more e = (subst (λ n. IsStretch xs members looked end n s) (sym e) more, sym is)
   stretches-push from to next (t ∷ ts) s is more h = (h.0, stretches-push (t.last + 1) to next ts s is more h.1)
 
+  -- the first of some stretches
+  pub first-below : (from to : ℕ) (ss : List Stretch) (s : Stretch) → 0 < length ss → s ≡ get_or ss 0 s →
+      AreStretches xs members looked end from to ss → AreBelow (length members) s.standings
+  first-below from to [] s some is h = absurd (omega arith)
+  first-below from to (t ∷ ss) s some is h = rw is h.0.below
+
   -- a stretch from a later day on
   stretch-later : (first day : ℕ) (s : Stretch) → first ≤ day → day ≤ s.last → IsStretch xs members looked end first s →
       IsStretch xs members looked end day s

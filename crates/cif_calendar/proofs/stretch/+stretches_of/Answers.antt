@@ -1,8 +1,11 @@
 -- One stretch more of both halves together (`merged-more`), until all of a half are merged (`merged-all`).
-use Rattle.cif_calendar.proofs.Names.{AreStretchesOf, IsJoint, List, length, refl, rules, subst, take-append-drop, ℕ, ◌/◌}
-use Rattle.cif_calendar.proofs.{Standings.looked-all, stretch.+stretches_of.Given.Over}
-use Rattle.cif_calendar.proofs.Stretches.{fewer-left, merged-all, merged-more, sooner}
+use Rattle.std.proofs.lemmas.Result.{IfOk-from_err}
+use Rattle.cif_calendar.proofs.Names.{AreStretchesOf, IsJoint, List, arith, length, refl, rules, subst, take-append-drop, ℕ}
+use Rattle.cif_calendar.proofs.Names.{◌/◌}
+use Rattle.cif_calendar.proofs.Standings.{looked-all}
+use Rattle.cif_calendar.proofs.Stretches.{fewer-left, first-below, merged-all, merged-more, sooner}
 use Rattle.cif_calendar.proofs.stretch.+stretches_of.Goals as goal
+use Rattle.cif_calendar.proofs.stretch.+stretches_of.Given.{Over}
 use Rattle.cif_calendar.proofs.stretch.+stretches_of.Goals.{After-look_at, After-one-item, In-len1-up-len1-up}
 
 pub loop-left-init : goal.loop-left-init
@@ -21,6 +24,14 @@ bounds-one-0 g t c = search rules
 
 pub bounds-other-0 : goal.bounds-other-0
 bounds-other-0 g t c = search rules
+
+pub look_at-requires-clause-below : goal.look_at-requires-clause-below
+look_at-requires-clause-below g t c = first-below _ c.args.members.now.positions _ _ _ _ c.loop-left.left.now c.one-item.result
+    (bounds-one-0 g t (goal.at.look_at-requires-clause-below g t c).In-len1-up-len1-up) c.one-item.is c.loop-left.invariant.merged.of_left
+
+pub look_at-requires-clause-others : goal.look_at-requires-clause-others
+look_at-requires-clause-others g t c = first-below _ c.args.members.now.positions _ _ _ _ c.loop-left.right.now c.other-item.result
+    (bounds-other-0 g t (goal.at.look_at-requires-clause-others g t c).After-one-item) c.other-item.is c.loop-left.invariant.merged.of_right
 
 -- the stretch of both ends with the sooner of them
 joint : (g : Over) (t : ℕ) (c : After-look_at g t) → IsJoint c.args.members.now.terms
@@ -72,3 +83,25 @@ returns-then-part-le-MOST_DIRECT g t c = record {
   stretches =
       c.stretches_of_few.ensures.stretches;
 }
+
+pub returns-in_err-lefts : goal.returns-in_err-lefts
+returns-in_err-lefts g t c = record { alike = c.in_err-lefts.ensures.alike; stretches = IfOk-from_err _ _ c.from_residual.ensures.0 }
+
+pub returns-in_err-rights : goal.returns-in_err-rights
+returns-in_err-rights g t c =
+    record { alike = c.in_err-rights.ensures.alike; stretches = IfOk-from_err _ _ c.from_residual-in_err-rights.ensures.0 }
+
+pub returns-in_err-push : goal.returns-in_err-push
+returns-in_err-push g t c = record { alike = c.look_at.ensures.alike; stretches = IfOk-from_err _ _ c.from_residual-in_err-push.ensures.0 }
+
+pub stretches_of_few-requires-clause-alike : goal.stretches_of_few-requires-clause-alike
+stretches_of_few-requires-clause-alike g t c = c.requires.alike
+
+pub stretches_of_few-requires-clause-part : goal.stretches_of_few-requires-clause-part
+stretches_of_few-requires-clause-part g t c = c.requires.part
+
+pub look_at-requires-clause-alike : goal.look_at-requires-clause-alike
+look_at-requires-clause-alike g t c = c.loop-left.invariant.alike
+
+pub overflow_add-number : goal.overflow_add-number
+overflow_add-number g t c = omega (arith, c.requires.part.within, c.args.members.now.few)

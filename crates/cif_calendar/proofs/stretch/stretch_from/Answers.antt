@@ -1,6 +1,9 @@
 -- One member more begins later, has ended (`stretch-begins`, `stretch-ended`), or lies over the first day (`stretch-looked`).
-use Rattle.cif_calendar.proofs.Names.{Some, [], refl, same_Some, slice_get, subst, sym, take, take_more, ◌+◌, ◌∙◌, ◌≡◌}
-use Rattle.cif_calendar.proofs.Stretches.{day_upto, part-at, some-before, stretch-begins, stretch-ended, stretch-looked, stretch-none}
+use Rattle.cif_calendar.proofs.Names.{Leader, Some, [], arith, length, refl, same_Some, slice_get, subst, sym, take, take_all}
+use Rattle.cif_calendar.proofs.Names.{take_more, ◌+◌, ◌∙◌, ◌≡◌}
+use Rattle.cif_calendar.proofs.Standings.{below-same}
+use Rattle.cif_calendar.proofs.Stretches.{day_upto, part-at, some-before, stretch-begins, stretch-ended, stretch-looked}
+use Rattle.cif_calendar.proofs.Stretches.{stretch-none}
 use Rattle.cif_calendar.proofs.stretch.stretch_from.Goals as goal
 use Rattle.cif_calendar.proofs.stretch.stretch_from.Goals.{else-le+in-Some, else-le+in_default, then-le+else-le-2, then-le+then-le-2}
 
@@ -11,6 +14,9 @@ loop-index-init g c = record {
       c.args.first c.args.last
       c.requires.in_order refl;
 }
+
+pub entry-requires : goal.entry-requires
+entry-requires g c = omega (arith, c.loop-index-test.true, c.requires.part.within)
 
 pub loop-index-preserved : goal.loop-index-preserved
 loop-index-preserved g c =
@@ -50,3 +56,25 @@ loop-index-preserved g c =
       }
       | else-le+in_default w ↦ absurd (w.in_default.ensures (some-before _ _ (begun.1 w.if-le.false)))
     ]
+
+pub returns-clause-stretch : goal.returns-clause-stretch
+returns-clause-stretch g c = rw (take_all c.loop-index.index c.args.part.now c.loop-index-test.false) at c.loop-index.invariant.stretch
+
+pub look_at-requires-clause-others : goal.look_at-requires-clause-others
+look_at-requires-clause-others g c = below-same (length c.args.members.now.positions) (Leader (c.args.number + c.loop-index.index))
+    (omega (arith, c.loop-index-test.true, c.requires.part.within))
+
+pub look_at-requires-clause-alike : goal.look_at-requires-clause-alike
+look_at-requires-clause-alike g c = c.loop-index.invariant.alike
+
+pub look_at-requires-clause-below : goal.look_at-requires-clause-below
+look_at-requires-clause-below g c = c.loop-index.invariant.stretch.below
+
+pub returns-clause-alike : goal.returns-clause-alike
+returns-clause-alike g c = c.loop-index.invariant.alike
+
+pub overflow_add-number : goal.overflow_add-number
+overflow_add-number g c = omega (arith, c.loop-index-test.true, c.requires.part.within, c.args.members.now.few)
+
+pub overflow_add-others : goal.overflow_add-others
+overflow_add-others g c = omega (arith, c.loop-index-test.true, c.requires.part.within, c.args.members.now.few)
