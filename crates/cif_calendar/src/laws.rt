@@ -1,9 +1,8 @@
 //! A law: what a calendar says of a key.
 ghost use Rattle.std.specs.Prelude.{◌≡◌, ◌↔◌, ◌≤◌, ℕ, List, Option, Some, IsSome, map, slice_get};
-ghost use Rattle.cif_calendar.specs.{Clash.IsClearFrom, Pieces.source_at, Runs.Runs, Source.IsChosen, Terms.Terms, Wins.Wins};
+ghost use Rattle.cif_calendar.specs.{Clash.IsClearFrom, Keys.ArePositionsOf, Keys.keyed, Keys.of_key, Pieces.source_at, Runs.Runs};
 ghost use Rattle.cif_calendar.specs.Calendar.{CalendarParts, IsCalendar, IsFault, body_on};
-ghost use Rattle.cif_calendar.specs.Keys.{keyed, of_key, ArePositionsOf};
-ghost use Rattle.cif_calendar.specs.declared.key_calendar.CalendarFault.{CalendarFault};
+ghost use Rattle.cif_calendar.specs.{Source.IsChosen, Terms.Terms, Wins.Wins, declared.key_calendar.CalendarFault.CalendarFault};
 
 use crate::entry::Entry;
 

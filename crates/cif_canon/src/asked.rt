@@ -4,8 +4,7 @@ ghost use Rattle.cif_columns.specs.declared.line_reader.TheConstants.{MAX_LINES}
 ghost use Rattle.cif_extract.specs.{ExtractParts.extract_parts, ReadCall.IsResultOfBoth, ReadFault.reading_extract};
 ghost use Rattle.cif_extract.specs.declared.fault.Fault.TheVariants.{OutsideWindow};
 ghost use Rattle.cif_weeks.specs.Window.{IsWithin};
-ghost use Rattle.cif_canon.specs.Asked.{IsNarrowed, IsNarrowingFault, header_window};
-ghost use Rattle.cif_canon.specs.Pair.{IsNarrowedPair, asked_of_both};
+ghost use Rattle.cif_canon.specs.{Asked.IsNarrowed, Asked.IsNarrowingFault, Asked.header_window, Pair.IsNarrowedPair, Pair.asked_of_both};
 
 use cif_columns::{Day, MAX_LINES, ReadDevice, Source};
 use cif_extract::{Extract, Fault, read_extract};

@@ -1,6 +1,5 @@
 //! The lines of a canonical form, one by one.
-ghost use Rattle.std.specs.Prelude.{◌≡◌, All, map};
-ghost use Rattle.std.specs.List.{enumerate_from, flat_map};
+ghost use Rattle.std.specs.{List.enumerate_from, List.flat_map, Prelude.All, Prelude.map, Prelude.◌≡◌};
 ghost use Rattle.cif_calendar.specs.Entries.{schedule_entries};
 ghost use Rattle.cif_canon.specs.{Appended.IsAppended, Lines.line_of_tiploc, Steps.Texts.HasRecord, Steps.Texts.numbered_text};
 

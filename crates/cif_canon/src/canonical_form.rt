@@ -37,9 +37,8 @@ pub struct Canon<'a> {
 impl<'a> Model for Canon<'a> {
     ghost use Rattle.std.specs.Prelude.{All, length};
     ghost use Rattle.cif_extract.specs.ExtractParts.{extract_parts};
-    ghost use Rattle.cif_canon.specs.Canon.{CanonParts};
+    ghost use Rattle.cif_canon.specs.{Canon.CanonParts, Steps.Texts.HasRecord, Steps.Texts.canon_lines, Steps.Texts.canon_text};
     ghost use Rattle.cif_calendar.specs.Entries.{association_entries, schedule_entries};
-    ghost use Rattle.cif_canon.specs.Steps.Texts.{HasRecord, canon_lines, canon_text};
 
     ghost Value = { CanonParts };
 

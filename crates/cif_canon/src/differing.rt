@@ -2,12 +2,11 @@
 ghost use Rattle.std.specs.Prelude.{◌≡◌, ◌↔◌, ◌<◌, IfErr, IfOk, IsTrue, OnOk, length, map};
 ghost use Rattle.cif_calendar.specs.Keys.{keyed};
 ghost use Rattle.cif_extract.specs.ExtractParts.{extract_parts};
-ghost use Rattle.cif_canon.specs.{Asked.header_window, Comparison.IsCompareFault, Meaning.Agree, Steps.Differences.AreComparable};
-ghost use Rattle.cif_canon.specs.Differences.{AreDifferences, AreNone, TurnLeftIntoRight};
+ghost use Rattle.cif_canon.specs.{Asked.header_window, Comparison.IsCompareFault, Differences.AreDifferences, Differences.AreNone};
+ghost use Rattle.cif_canon.specs.{Differences.TurnLeftIntoRight, Meaning.Agree, Steps.Differences.AreComparable};
 ghost use Rattle.cif_canon.specs.Steps.OnlySides.{AreAppendedRuns, AreDifferentRuns, AreKeyDifferences, AreOfOneKey, AreRisingRuns};
-ghost use Rattle.cif_canon.specs.Steps.OnlySides.{IsFirstSide};
+ghost use Rattle.cif_canon.specs.{Steps.OnlySides.IsFirstSide, declared.differing.Extent.TheVariants.FirstKey};
 ghost use Rattle.cif_weeks.specs.Window.{window_days};
-ghost use Rattle.cif_canon.specs.declared.differing.Extent.TheVariants.{FirstKey};
 
 use crate::Differences;
 use crate::extract_runs::extract_runs;

@@ -1,17 +1,14 @@
 //! The laws that accepted inputs have canonical bytes, that these are unique, and that differences are
 //! listed by pairs.
-ghost use Rattle.std.specs.Prelude.{◌≡◌, ℕ, List};
-ghost use Rattle.std.specs.{Cmp.Lexicographic.slice_cmp, Ordering.nat_cmp};
+ghost use Rattle.std.specs.{Cmp.Lexicographic.slice_cmp, Ordering.nat_cmp, Prelude.List, Prelude.ℕ, Prelude.◌≡◌};
 ghost use Rattle.cif_columns.specs.Source.{Unread};
-ghost use Rattle.cif_extract.specs.ExtractParts.{ExtractParts};
-ghost use Rattle.cif_extract.specs.declared.fault.Fault.{Fault};
+ghost use Rattle.cif_extract.specs.{ExtractParts.ExtractParts, declared.fault.Fault.Fault};
 ghost use Rattle.cif_records.specs.AssocKey.{key_cmp};
 ghost use Rattle.cif_weeks.specs.declared.form.Form.{Form};
 ghost use Rattle.cif_canon.specs.{Accepted.IsAccepted, Accepted.IsAcceptedWithin, Canonical.IsCanonicalOf, Differences.AreDifferences};
-ghost use Rattle.cif_canon.specs.{Differences.DifferencesParts, Fault.IsDeviceOrMemory, Fault.IsNormaliseFault, Pairs.AreByPairs};
-ghost use Rattle.cif_canon.specs.{Pairs.by_pairs};
-ghost use Rattle.cif_canon.specs.NormalForm.{IsNormalFormAgain, IsReachedFromForms, IsUnique};
-ghost use Rattle.cif_canon.specs.declared.asked.Asked.{Asked};
+ghost use Rattle.cif_canon.specs.{Differences.DifferencesParts, Fault.IsDeviceOrMemory, Fault.IsNormaliseFault};
+ghost use Rattle.cif_canon.specs.{NormalForm.IsNormalFormAgain, NormalForm.IsReachedFromForms, NormalForm.IsUnique, Pairs.AreByPairs};
+ghost use Rattle.cif_canon.specs.{Pairs.by_pairs, declared.asked.Asked.Asked};
 
 /// Canonical bytes of one form are equal exactly if what they are made of says the same; they are
 /// their own canonical form, and that of each form's canonical bytes of the same.

@@ -1,7 +1,6 @@
 //! The canonical form of an input, or why there is none, and the line that says why.
 ghost use Rattle.std.specs.Prelude.{◌≤◌, ◌≡◌, ℕ, List, IfErr, IfOk, IfSome};
-ghost use Rattle.cif_columns.specs.{Sink.Writes, Source.reader_of};
-ghost use Rattle.cif_columns.specs.declared.line_reader.TheConstants.{MAX_LINES};
+ghost use Rattle.cif_columns.specs.{Sink.Writes, Source.reader_of, declared.line_reader.TheConstants.MAX_LINES};
 ghost use Rattle.cif_extract.specs.{ExtractParts.extract_parts, ReadCall.IsResultOf};
 ghost use Rattle.cif_canon.specs.{Canon.IsCanonOf, Fault.IsCanonFault, Fault.reading_narrowed, Report.fault_line};
 ghost use Rattle.cif_canon.specs.Normalised.{FaultWrites, HasCanon, Normalises, reading_canon, checking, normalising};

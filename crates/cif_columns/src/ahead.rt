@@ -3,9 +3,8 @@
 ghost use Rattle.std.specs.Prelude.{◌≡◌, ◌<◌, ◌≤◌, [], ℕ, List, Ok, OnErr, IfSome, IfNone, IsTrue, MatchOption, length};
 ghost use Rattle.std.specs.Prelude.{take, drop, true, false, slice_index};
 ghost use Rattle.std.specs.{Io.KnownBytes.IsAtEnd, Io.KnownBytes.Keeps, Str.Lines.strip_carriage_return};
-ghost use Rattle.cif_columns.specs.{Comment.begins_comment, Comment.is_comment, FirstLine.line_of};
-ghost use Rattle.cif_columns.specs.Contents.{HaveNoFeed, IsFirstFeed, most_by};
-ghost use Rattle.cif_columns.specs.Source.{Reads, reader_of, source_ended};
+ghost use Rattle.cif_columns.specs.{Comment.begins_comment, Comment.is_comment, Contents.HaveNoFeed, Contents.IsFirstFeed};
+ghost use Rattle.cif_columns.specs.{Contents.most_by, FirstLine.line_of, Source.Reads, Source.reader_of, Source.source_ended};
 ghost use Rattle.cif_columns.specs.declared.{ahead.TheConstants.AHEAD, line_reader.TheConstants.MAX_LINES};
 
 use crate::line::{LINE_TEXT_WIDTH, LINE_WIDTH, Line};

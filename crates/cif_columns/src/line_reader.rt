@@ -1,7 +1,6 @@
 //! Lines, one by one, from a source that gives its bytes in any pieces.
 ghost use Rattle.std.specs.Prelude.{◌≡◌, ◌<◌, ◌≤◌, ◌+◌, [], ℕ, List, IfSome, IsTrue, false};
-ghost use Rattle.cif_columns.specs.Contents.{most_by};
-ghost use Rattle.cif_columns.specs.declared.{ahead.TheConstants.AHEAD, line_reader.TheConstants.MAX_LINES};
+ghost use Rattle.cif_columns.specs.{Contents.most_by, declared.ahead.TheConstants.AHEAD, declared.line_reader.TheConstants.MAX_LINES};
 
 use crate::ahead::{ContentReader, LONGEST_LINE, Most, NextContent, is_comment, line_of};
 use crate::line::{LINE_WIDTH, Line};

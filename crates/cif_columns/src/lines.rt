@@ -1,8 +1,7 @@
 //! Lines that are kept without the spaces at their ends, and lines as they are written.
 ghost use Rattle.std.specs.Prelude.{◌≡◌, ◌++◌, ◌∷◌, [], ◌+◌, ◌-◌, ◌<◌, ◌≤◌, ◌↔◌, ◌==◌, OnOk, IfOk, IsTrue, All};
 ghost use Rattle.std.specs.Prelude.{◌^◌, cond, drop, length, slice_index, slice_index_or, take};
-ghost use Rattle.cif_columns.specs.{Contents.lines_text, Line.ArePrintable, Line.IsLine};
-ghost use Rattle.cif_columns.specs.Lines.{is_space, used, wide};
+ghost use Rattle.cif_columns.specs.{Contents.lines_text, Line.ArePrintable, Line.IsLine, Lines.is_space, Lines.used, Lines.wide};
 
 use crate::line::{LINE_TEXT_WIDTH, LINE_WIDTH, Line, array_of};
 use crate::text::left_justified;

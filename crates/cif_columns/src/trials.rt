@@ -1,9 +1,7 @@
 //! A reader and a writer for tests, which fail where a test asks for it.
 ghost use Rattle.std.specs.Prelude.{◌≡◌, ◌+◌, ◌-◌, ◌^◌, ◌<◌, ◌≤◌, [], Some, IsTrue, IfOk, IsErr, min, length, take};
-ghost use Rattle.std.specs.Io.{ReadsAtMost, WritesAtMost};
-ghost use Rattle.std.specs.Io.KnownBytes.{ReadConsumes, Keeps, WriteAppends};
-ghost use Rattle.cif_columns.specs.Devices.{CountsErrors, OneError, known_count};
-ghost use Rattle.cif_columns.specs.End.{ends_below, bytes_left};
+ghost use Rattle.std.specs.{Io.KnownBytes.Keeps, Io.KnownBytes.ReadConsumes, Io.KnownBytes.WriteAppends, Io.ReadsAtMost, Io.WritesAtMost};
+ghost use Rattle.cif_columns.specs.{Devices.CountsErrors, Devices.OneError, Devices.known_count, End.bytes_left, End.ends_below};
 ghost use Rattle.cif_columns.specs.declared.trials.TheConstants.{ROOM};
 
 use crate::sink::WriteDevice;

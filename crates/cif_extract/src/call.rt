@@ -63,8 +63,7 @@ pub struct Calls<'a> {
 
 impl<'a> Model for Calls<'a> {
     ghost use Rattle.std.specs.Prelude.{All, List, map};
-    ghost use Rattle.cif_extract.specs.declared.call.Call.{Call};
-    ghost use Rattle.cif_extract.specs.Call.{SpellsSomeCall, before_last, call_in};
+    ghost use Rattle.cif_extract.specs.{Call.SpellsSomeCall, Call.before_last, Call.call_in, declared.call.Call.Call};
 
     ghost Value = { List Call };
 

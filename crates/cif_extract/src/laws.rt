@@ -2,10 +2,9 @@
 ghost use Rattle.std.specs.Prelude.{◌≡◌, ◌≤◌, ℕ, All, List, [], ◌∷◌, length, IfErr, IfOk, Result};
 ghost use Rattle.cif_columns.specs.{Contents.contents_of, Line.IsLine, Source.Unread};
 ghost use Rattle.cif_extract.specs.{ExtractParts.ExtractParts, FirstRefusal.NoneRefused, Grammar.BeginExtract, OrderOfRecords.AreInOrder};
-ghost use Rattle.cif_extract.specs.{ReadFault.IsReadAs, ReadFault.reading_extract};
+ghost use Rattle.cif_extract.specs.{ReadFault.IsReadAs, ReadFault.reading_extract, Texts.FitsColumns, Texts.extract_lines};
 ghost use Rattle.cif_extract.specs.SpellsExtract.{BytesSpell, BytesSpellWithin, SpellAll, SpellExtract};
-ghost use Rattle.cif_extract.specs.Texts.{FitsColumns, extract_lines, extract_text};
-ghost use Rattle.cif_extract.specs.declared.{extract.Extract.Extract, fault.Fault.Fault};
+ghost use Rattle.cif_extract.specs.{Texts.extract_text, declared.extract.Extract.Extract, declared.fault.Fault.Fault};
 ghost use Rattle.cif_records.specs.declared.record.Record.{Record};
 
 /// Lines, and bytes, spell one extract at most.

@@ -1,8 +1,7 @@
 //! Reading a whole extract, line by line.
 ghost use Rattle.std.specs.Prelude.{◌≡◌, ◌≢◌, ◌<◌, ◌≤◌, ◌+◌, ◌^◌, ◌++◌, ◌∷◌, []};
 ghost use Rattle.std.specs.Prelude.{IfErr, IfNone, IfOk, IfSome, IsTrue, List, Ok, OnOk, Some, true, ℕ};
-ghost use Rattle.cif_columns.specs.Line.{ArePrintable, IsLine};
-ghost use Rattle.cif_columns.specs.declared.line_reader.TheConstants.{MAX_LINES};
+ghost use Rattle.cif_columns.specs.{Line.ArePrintable, Line.IsLine, declared.line_reader.TheConstants.MAX_LINES};
 ghost use Rattle.cif_extract.specs.{ExtractParts.extract_parts, ReadCall.IsResultOf, ReadFault.reading_extract};
 ghost use Rattle.cif_records.specs.{Association.association_refusal, Basic.basic_refusal, Bodies.has_body, Header.header_refusal};
 ghost use Rattle.cif_records.specs.{Kind.kind_in, Record.record_refusal, Tiploc.tiploc_refusal, Trailer.trailer_refusal};
@@ -73,12 +72,10 @@ pub struct Reading {
 
 impl Reading {
     ghost use Rattle.cif_extract.specs.{Body.KeepSomeBody, Grammar.AreExtract, Layouts.own_layouts, OrderOfRecords.may_stand};
-    ghost use Rattle.cif_extract.specs.{Taken.refusal_at};
+    ghost use Rattle.cif_extract.specs.{Steps.Reading.no_progress, Steps.Reading.progress_of, Steps.Reading.step, Taken.refusal_at};
     ghost use Rattle.cif_extract.specs.Steps.Reading.{HasLast, HasRead, IsClosed, IsFurther, IsFurtherPlainly, IsKeepable, IsKept, IsStep};
     ghost use Rattle.cif_extract.specs.Steps.Reading.{GoesOnPlainly, IsTaken, Progress, keeping};
-    ghost use Rattle.cif_extract.specs.Steps.Reading.{no_progress, progress_of, step};
-    ghost use Rattle.cif_records.specs.{Basic.terms_of, Detail.detail_in};
-    ghost use Rattle.cif_records.specs.declared.{basic.Basic.Basic, record.Record.Record};
+    ghost use Rattle.cif_records.specs.{Basic.terms_of, Detail.detail_in, declared.basic.Basic.Basic, declared.record.Record.Record};
 
     /// The reading of no lines.
     pub fn new(alloc: Global) -> Reading

@@ -1,7 +1,6 @@
 //! Records as plain lines, each with a line feed.
 ghost use Rattle.std.specs.Prelude.{◌≡◌, ◌≤◌, ◌++◌, ◌∷◌, [], Some};
-ghost use Rattle.cif_columns.specs.{Contents.lines_text, Field.plain_line, Sink.Writes};
-ghost use Rattle.cif_columns.specs.declared.stp.Stp.TheVariants.{P};
+ghost use Rattle.cif_columns.specs.{Contents.lines_text, Field.plain_line, Sink.Writes, declared.stp.Stp.TheVariants.P};
 ghost use Rattle.cif_extract.specs.Texts.{further_lines, schedule_lines};
 ghost use Rattle.cif_records.specs.{Association.association_rows, Header.header_table, Tiploc.tiploc_table, Trailer.trailer_table};
 

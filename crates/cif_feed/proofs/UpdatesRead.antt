@@ -264,6 +264,11 @@ module _ {R W A : Type 0} (remaining : R → Option (List ℕ)) (errors : R → 
           answer = λ bytes given known are. (reported-here, written bytes given known are);
         }
 
+    pub ended-fault : (old after : Sink W) (result : Result A FeedFault) → Ends old after result →
+        OfUpdates remaining (λ bytes given. IfErr result (IsUpdateFault lenient bytes given)) full updates
+    ended-fault old after (Ok a) w bytes given known are = tt
+    ended-fault old after (Err f) w bytes given known are = subst (IsUpdateFault lenient bytes given) (sym w.0) (inl tt)
+
     pub ended-reads : ((a : A) → listed a ≡ these) → (old after : Sink W) (result : Result A FeedFault) → Ends old after result →
         AreUpdatesRead remaining errors listed lenient full full_new updates updates_new result
     ended-reads is old after (Ok a) w = read-first (Ok tt) (Ok a) turn (is a, tt)

@@ -1,7 +1,6 @@
 //! What the lines of an update do to records of one kind.
 ghost use Rattle.std.specs.Prelude.{◌≡◌, ◌↔◌, ◌++◌, ◌∷◌, [], Bool, List, IfOk, IsTrue, filter, is_some, map, not};
-ghost use Rattle.std.specs.Prelude.{option_to_list, reverse, if◌then◌else◌};
-ghost use Rattle.std.specs.BTreeMap.{get};
+ghost use Rattle.std.specs.{BTreeMap.get, Prelude.if◌then◌else◌, Prelude.option_to_list, Prelude.reverse};
 ghost use Rattle.cif_feed.specs.Changes.{AreAfter, AreRefused, ChangeParts, changes_of};
 ghost use Rattle.cif_feed.specs.Changes.{may_be_applied, parts_of, put_last, refusals, why_unfit, with_keys};
 ghost use Rattle.cif_feed.specs.Steps.Changes.{AreLast, SaysThere, at_keys, is_position, same_by};

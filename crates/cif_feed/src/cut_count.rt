@@ -1,14 +1,12 @@
 //! How many records holidays cut, and how many apply on a date on which their key clashes.
 ghost use Rattle.std.specs.Prelude.{◌≡◌, ◌↔◌, ◌<◌, ◌≤◌, ◌+◌, ◌^◌, ℕ, Contains, IsTrue, List, length};
 ghost use Rattle.std.specs.{BTreeMap.get, List.Sorted.IsNonDecreasing, Ordering.nat_cmp};
-ghost use Rattle.cif_feed.specs.CutCount.{AppliesOnAny, HasCut, IsCountOf};
-ghost use Rattle.cif_feed.specs.{Parts.ended, Published.AppliesAsPublished, PublishedParts.published_association_terms};
-ghost use Rattle.cif_feed.specs.{PublishedParts.published_schedule_terms, Steps.Dropping.ReadsAssociations, Steps.Dropping.ReadsTrains};
-ghost use Rattle.cif_feed.specs.{Steps.Marks.plus_if};
-ghost use Rattle.cif_feed.specs.declared.{published_extract.PublishedAssociation.PublishedAssociation};
-ghost use Rattle.cif_feed.specs.declared.{published_extract.PublishedSchedule.PublishedSchedule};
-ghost use Rattle.cif_records.specs.AssocKey.{key_cmp};
-ghost use Rattle.cif_records.specs.declared.association.AssocKey.{AssocKey};
+ghost use Rattle.cif_feed.specs.{CutCount.AppliesOnAny, CutCount.HasCut, CutCount.IsCountOf, Parts.ended, Published.AppliesAsPublished};
+ghost use Rattle.cif_feed.specs.PublishedParts.{published_association_terms, published_schedule_terms};
+ghost use Rattle.cif_feed.specs.{Steps.Dropping.ReadsAssociations, Steps.Dropping.ReadsTrains, Steps.Marks.plus_if};
+ghost use Rattle.cif_feed.specs.declared.published_extract.PublishedAssociation.{PublishedAssociation};
+ghost use Rattle.cif_feed.specs.declared.published_extract.PublishedSchedule.{PublishedSchedule};
+ghost use Rattle.cif_records.specs.{AssocKey.key_cmp, declared.association.AssocKey.AssocKey};
 
 use crate::prepare::{ClashDates, dates_of, prepared_last};
 use crate::prepared_record::from_day;

@@ -1,7 +1,6 @@
 //! Reading a published extract, or an update, content by content.
 ghost use Rattle.std.specs.Prelude.{◌≡◌, ◌<◌, ◌≤◌, ◌+◌, ◌^◌, ◌++◌, ◌∷◌, [], ℕ, List, Some, false, true, length, IfErr, IfOk, OnOk, All};
-ghost use Rattle.cif_columns.specs.{Comment.is_comment, Line.IsLine};
-ghost use Rattle.cif_columns.specs.declared.line_reader.TheConstants.{MAX_LINES};
+ghost use Rattle.cif_columns.specs.{Comment.is_comment, Line.IsLine, declared.line_reader.TheConstants.MAX_LINES};
 ghost use Rattle.cif_extract.specs.{ReadCall.IsResultOf, Taken.IsNoTrailer};
 ghost use Rattle.cif_extract.specs.Steps.Reading.{GoesOnPlainly, HasRead, progress_of};
 ghost use Rattle.cif_feed.specs.{FeedFault.reading_feed, FeedLayouts.feed_layouts, FeedRefusal.untaken_fault, RecordLines.is_note};
@@ -9,8 +8,7 @@ ghost use Rattle.cif_feed.specs.{RecordLines.record_lines, SpellsFeed.SayFeed, S
 ghost use Rattle.cif_feed.specs.Steps.FeedReading.{HasTakenFeed, IsFeedTaken, IsMarkedTaken, IsNoteTaken, IsOwn, IsStopTaken, read_as};
 ghost use Rattle.cif_feed.specs.Steps.Marks.{HasMarks, HaveRoom, own_mark};
 ghost use Rattle.cif_feed.specs.declared.{feed_line.Feed.Feed, holidays.HolidayCodes.HolidayCodes};
-ghost use Rattle.cif_records.specs.Kind.{kind_in};
-ghost use Rattle.cif_records.specs.declared.record.Record.{Record};
+ghost use Rattle.cif_records.specs.{Kind.kind_in, declared.record.Record.Record};
 
 use crate::feed_line::{read_association, read_basic, read_header, read_tiploc};
 use crate::mark::{LineMark, Marks};

@@ -1,11 +1,9 @@
 //! Judging each line of an input by itself, and reading the extract where no line is refused so.
 ghost use Rattle.std.specs.Prelude.{◌≡◌, ◌<◌, ◌≤◌, ◌+◌, ◌^◌, ◌++◌, ◌∷◌, [], ℕ, List, None, Some, IfErr, IfOk, length};
-ghost use Rattle.cif_columns.specs.{FirstLine.line_of, Source.unread_of};
-ghost use Rattle.cif_columns.specs.declared.line_reader.TheConstants.{MAX_LINES};
+ghost use Rattle.cif_columns.specs.{FirstLine.line_of, Source.unread_of, declared.line_reader.TheConstants.MAX_LINES};
 ghost use Rattle.cif_extract.specs.ReadCall.{IsResultOf};
-ghost use Rattle.cif_feed.specs.Reasons.{own_reason};
+ghost use Rattle.cif_feed.specs.{Reasons.own_reason, Steps.Judging.HasJudged, Steps.Judging.IsFinished, Steps.Judging.IsInOrder};
 ghost use Rattle.cif_records.specs.Record.{record_refusal};
-ghost use Rattle.cif_feed.specs.Steps.Judging.{HasJudged, IsFinished, IsInOrder};
 
 use crate::reasons::Reasons;
 use cif_columns::{ContentReader, Line, NextContent, ReadDevice, Refusal, Source, line_of};

@@ -2,8 +2,7 @@
 ghost use Rattle.std.specs.Prelude.{◌≡◌, ◌≤◌, ℕ, List, Option, IfErr, IfOk, IfSome, false, map, true};
 ghost use Rattle.std.specs.{BTreeMap.get, List.Sorted.IsNonDecreasing, Ordering.nat_cmp};
 ghost use Rattle.cif_calendar.specs.Entries.{association_entries, schedule_entries};
-ghost use Rattle.cif_columns.specs.{Sink.Writes, Source.reader_of};
-ghost use Rattle.cif_columns.specs.declared.line_reader.TheConstants.{MAX_LINES};
+ghost use Rattle.cif_columns.specs.{Sink.Writes, Source.reader_of, declared.line_reader.TheConstants.MAX_LINES};
 ghost use Rattle.cif_extract.specs.{ReadCall.IsResultOf, Texts.extract_text};
 ghost use Rattle.cif_feed.specs.FeedAnswer.{AreHolidaysRead, FeedAnswers, IsHandedOn, IsPrepareAnswer, IsPrepareFault};
 ghost use Rattle.cif_feed.specs.FeedAnswer.{IsPreparedInTurn, IsReported, OfHolidays};
@@ -13,8 +12,7 @@ ghost use Rattle.cif_feed.specs.PublishedParts.{published_associations, publishe
 ghost use Rattle.cif_feed.specs.Steps.Dropping.{AreAllFound, IsCutAt, IsStopAmong, ReadsAssociations, ReadsDates, ReadsTrains};
 ghost use Rattle.cif_feed.specs.WrittenPrepared.{FeedWrites, IsPreparedAs, Prepares, WritesPrepared, preparing};
 ghost use Rattle.cif_feed.specs.declared.{holidays.HolidayCode.HolidayCode, holidays.Holidays.Holidays};
-ghost use Rattle.cif_records.specs.AssocKey.{key_cmp};
-ghost use Rattle.cif_records.specs.declared.association.AssocKey.{AssocKey};
+ghost use Rattle.cif_records.specs.{AssocKey.key_cmp, declared.association.AssocKey.AssocKey};
 
 use crate::dropped::find_clash_dates;
 use crate::prepared_record::{RisingDays, add_parts};

@@ -1,7 +1,6 @@
 //! Published extracts: their records, reading and writing them.
 ghost use Rattle.std.specs.Prelude.{◌≡◌, ◌≢◌, ◌≤◌, ◌+◌, ◌++◌, ◌∷◌, [], IfOk, IsTrue};
-ghost use Rattle.cif_columns.specs.Line.{ArePrintable};
-ghost use Rattle.cif_columns.specs.declared.line_reader.TheConstants.{MAX_LINES};
+ghost use Rattle.cif_columns.specs.{Line.ArePrintable, declared.line_reader.TheConstants.MAX_LINES};
 ghost use Rattle.cif_extract.specs.ReadCall.{IsResultOf};
 ghost use Rattle.cif_feed.specs.{FromLines.ArePairs, FromLines.AreTriples, LastDay.last_day};
 ghost use Rattle.cif_feed.specs.WrittenOver.{with_code, with_columns, with_open_end};

@@ -85,8 +85,7 @@ impl Keyed for PublishedSchedule {
     // two UIDs take.
     type Rank = (u64, Day, Stp, Uid);
 
-    ghost use Rattle.std.proofs.{Common.rules, lemmas.Grind.common_steps};
-    ghost use Rattle.std.specs.Cmp.Lexicographic.{bytes_decides};
+    ghost use Rattle.std.{proofs.Common.rules, proofs.lemmas.Grind.common_steps, specs.Cmp.Lexicographic.bytes_decides};
     ghost use Rattle.cif_feed.specs.RecordKeys.{schedule_key, schedule_rank};
 
     ghost key = { λ s. schedule_key s.schedule };

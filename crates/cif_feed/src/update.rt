@@ -2,10 +2,9 @@
 ghost use Rattle.std.specs.Prelude.{◌≡◌, ◌≤◌, ◌++◌, ◌∷◌, [], IfOk, length, reverse, if◌then◌else◌};
 ghost use Rattle.cif_columns.specs.declared.line_reader.TheConstants.{MAX_LINES};
 ghost use Rattle.cif_extract.specs.ReadCall.{IsResultOf};
-ghost use Rattle.cif_feed.specs.{PublishedParts.published_parts, SpellsFeed.feed_parts, Steps.Changes.IsDone, Steps.Changes.last_line};
-ghost use Rattle.cif_feed.specs.{Steps.Marks.HasMarks, Updated.reported_once};
-ghost use Rattle.cif_feed.specs.UpdateParts.{change_by, tiploc_changes, tiploc_changes_by};
-ghost use Rattle.cif_feed.specs.Sequence.{current_reference, follows, last_reference};
+ghost use Rattle.cif_feed.specs.{PublishedParts.published_parts, Sequence.current_reference, Sequence.follows, Sequence.last_reference};
+ghost use Rattle.cif_feed.specs.{SpellsFeed.feed_parts, Steps.Changes.IsDone, Steps.Changes.last_line, Steps.Marks.HasMarks};
+ghost use Rattle.cif_feed.specs.{UpdateParts.change_by, UpdateParts.tiploc_changes, UpdateParts.tiploc_changes_by, Updated.reported_once};
 ghost use Rattle.cif_feed.specs.declared.changes.Unfit.TheVariants as unfit;
 ghost use Rattle.cif_feed.specs.declared.feed_line.Feed.TheVariants as feed;
 
@@ -89,8 +88,7 @@ impl Update {
 }
 
 impl PublishedExtract {
-    ghost use Rattle.cif_feed.specs.Updated.{updating, AreRefusedLines, IsUpdated};
-    ghost use Rattle.cif_feed.specs.UpdateParts.{update_parts};
+    ghost use Rattle.cif_feed.specs.{UpdateParts.update_parts, Updated.AreRefusedLines, Updated.IsUpdated, Updated.updating};
 
     /// Applies the update. Returns the lines that don't fit, that of its header first, if it doesn't follow,
     /// and then the others in their order, each once; they are applied anyway.

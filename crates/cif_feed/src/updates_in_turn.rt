@@ -2,8 +2,7 @@
 ghost use Rattle.std.specs.Prelude.{◌≡◌, ◌++◌, IfErr, IfOk, List};
 ghost use Rattle.cif_columns.specs.declared.line_reader.TheConstants.{MAX_LINES};
 ghost use Rattle.std.specs.List.{list_any};
-ghost use Rattle.cif_feed.specs.{Counts.have_marks, PublishedParts.published_parts};
-ghost use Rattle.cif_feed.specs.declared.updates_in_turn.DoneUpdate.{DoneUpdate};
+ghost use Rattle.cif_feed.specs.{Counts.have_marks, PublishedParts.published_parts, declared.updates_in_turn.DoneUpdate.DoneUpdate};
 ghost use Rattle.cif_feed.specs.FeedAnswer.{AreDoneInTurn, AreUpdatesRead, FeedAnswers, FeedFinishes, IsHandedOn, IsOneDone, IsReported};
 ghost use Rattle.cif_feed.specs.FeedAnswer.{IsUpdateAnswer, IsUpdateFault, OfUpdates, looks_prepared, reported_of};
 

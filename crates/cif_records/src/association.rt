@@ -1,7 +1,6 @@
 //! An association of two trains.
 ghost use Rattle.std.specs.Prelude.{◌≡◌, ◌≤◌, [], ◌↔◌, Some, Ok, IsTrue, is_some};
-ghost use Rattle.cif_columns.specs.Field.{AllFit, AllStandIn, plain_line};
-ghost use Rattle.cif_columns.specs.LineBuilder.{put_all};
+ghost use Rattle.cif_columns.specs.{Field.AllFit, Field.AllStandIn, Field.plain_line, LineBuilder.put_all};
 ghost use Rattle.cif_records.specs.{Bodies.has_body, Checks.IsJudged};
 
 use crate::layout::{self, DateRange, Layout, check_letters, dates_at, field_or, has_body};
@@ -65,9 +64,8 @@ impl fmt::Debug for Association {
 impl Association {
     ghost use Rattle.std.specs.Prelude.{codes};
     ghost use Rattle.cif_columns.specs.Field.{StandsIn, columns, date, indicator, weekdays};
-    ghost use Rattle.cif_records.specs.declared.association.Association.{Association};
+    ghost use Rattle.cif_records.specs.{Association.association_table, Association.rows_on, declared.association.Association.Association};
     ghost use Rattle.cif_records.specs.Association.{SpellsAssociation, SpellsBody, association_refusal, association_rows};
-    ghost use Rattle.cif_records.specs.Association.{association_table, rows_on};
 
     /// The association that the line spells, or the first reason in column order why it spells
     /// none: UnknownRecord (columns 1 to 2), NotFull (column 3), BadDate, OpenEnd and DatesReversed
@@ -251,9 +249,8 @@ pub struct AssocKey {
 }
 
 impl AssocKey {
+    ghost use Rattle.cif_records.specs.{AssocKey.HasTexts, AssocKey.key_cmp, AssocKey.written_key_cmp, Association.SpellsKey};
     ghost use Rattle.cif_records.specs.declared.association.AssocKey.{AssocKey};
-    ghost use Rattle.cif_records.specs.AssocKey.{HasTexts, key_cmp, written_key_cmp};
-    ghost use Rattle.cif_records.specs.Association.{SpellsKey};
 
     /// The key in columns 4 to 15 and 38 to 46, whatever the other columns are. There is always one.
     pub fn read(line: &Line) -> AssocKey
@@ -304,8 +301,7 @@ pub struct AssocBody {
 }
 
 impl AssocBody {
-    ghost use Rattle.cif_records.specs.declared.association.AssocBody.{AssocBody};
-    ghost use Rattle.cif_records.specs.Association.{blank_body};
+    ghost use Rattle.cif_records.specs.{Association.blank_body, declared.association.AssocBody.AssocBody};
 
     /// The body that stands in blank columns.
     #[tactic(auto, unfolding(cif_columns::specs::Text::text_of))]

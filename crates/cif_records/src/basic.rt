@@ -1,8 +1,7 @@
 //! The first record of a schedule.
 ghost use Rattle.std.specs.Prelude.{◌≡◌, ◌≤◌, [], length, Ok, Option, Some, is_some};
 ghost use Rattle.cif_columns.specs.Field.{AllFit, AllStandIn, columns, plain_line};
-ghost use Rattle.cif_columns.specs.Line.{IsLine};
-ghost use Rattle.cif_columns.specs.declared.stp.Stp.TheVariants.{P};
+ghost use Rattle.cif_columns.specs.{Line.IsLine, declared.stp.Stp.TheVariants.P};
 ghost use Rattle.cif_records.specs.{Bodies.has_body, Checks.IsJudged, Detail.detail_rows, Detail.detail_table};
 ghost use Rattle.cif_records.specs.declared.detail.Detail.{Detail};
 

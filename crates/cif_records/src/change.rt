@@ -109,8 +109,7 @@ impl fmt::Debug for Change {
 }
 
 impl Change {
-    ghost use Rattle.cif_records.specs.declared.change.Change.{Change};
-    ghost use Rattle.cif_records.specs.Change.{SpellsChange, change_refusal, change_table};
+    ghost use Rattle.cif_records.specs.{Change.SpellsChange, Change.change_refusal, Change.change_table, declared.change.Change.Change};
 
     /// The change that the line spells, or the first reason in column order why it spells
     /// none: UnknownRecord (columns 1 to 2).

@@ -63,8 +63,7 @@ impl fmt::Debug for Extra {
 }
 
 impl Extra {
-    ghost use Rattle.cif_records.specs.declared.extra.Extra.{Extra};
-    ghost use Rattle.cif_records.specs.Extra.{SpellsExtra, extra_refusal, extra_table};
+    ghost use Rattle.cif_records.specs.{Extra.SpellsExtra, Extra.extra_refusal, Extra.extra_table, declared.extra.Extra.Extra};
 
     /// The further details that the line spells, or the first reason in column order why it spells
     /// none: UnknownRecord (columns 1 to 2).

@@ -1,8 +1,7 @@
 //! The header of an extract.
 ghost use Rattle.std.specs.Prelude.{◌≡◌, ◌≤◌, ◌↔◌, Some, Ok, IsTrue, codes, length};
 ghost use Rattle.std.proofs.Props.{props};
-ghost use Rattle.cif_columns.specs.{Day.ddmmyy_in, Line.ArePrintable};
-ghost use Rattle.cif_columns.specs.Field.{AllStandIn, columns, plain_line};
+ghost use Rattle.cif_columns.specs.{Day.ddmmyy_in, Field.AllStandIn, Field.columns, Field.plain_line, Line.ArePrintable};
 ghost use Rattle.cif_records.specs.Checks.{IsJudged};
 ghost use Rattle.cif_records.specs.HeaderColumns.{IsFull, kept, with_window as columns_with_window};
 

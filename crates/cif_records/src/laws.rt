@@ -1,8 +1,7 @@
 //! Laws for proofs: what a line says of its record.
 ghost use Rattle.std.specs.Prelude.{◌≡◌, ℕ, List};
 ghost use Rattle.cif_columns.specs.{Field.AllFit, Field.plain_line, Line.IsLine};
-ghost use Rattle.cif_records.specs.Record.{SpellsRecord, record_table};
-ghost use Rattle.cif_records.specs.declared.record.Record.{Record};
+ghost use Rattle.cif_records.specs.{Record.SpellsRecord, Record.record_table, declared.record.Record.Record};
 
 /// A line spells one record at most.
 pub fn lines_spell_one_record()

@@ -1,11 +1,9 @@
 //! What the kinds of record have in common: a table, and the checks of columns.
 ghost use Rattle.std.specs.Prelude.{◌≡◌, [], ◌∷◌, ◌≤◌, ◌+◌, List, Some, IfOk, is_some, true};
-ghost use Rattle.cif_columns.specs.{Day.ddmmyy_in, Day.yymmdd_in, LineBuilder.put_all};
+ghost use Rattle.cif_columns.specs.{Day.ddmmyy_in, Day.yymmdd_in, Field.public_time, Field.working_time, LineBuilder.put_all};
 ghost use Rattle.cif_columns.specs.Field.{AllFit, AllStandIn, Row, StandsIn, is_whole_from, plain_line, columns, columns_from, date};
-ghost use Rattle.cif_columns.specs.Field.{public_time, working_time};
-ghost use Rattle.cif_records.specs.Bodies.{has_body};
+ghost use Rattle.cif_records.specs.{Bodies.has_body, Checks.last_date_refusal, Checks.public_time_refusal, Checks.work_time_refusal};
 ghost use Rattle.cif_records.specs.Checks.{IsJudged, are, first_of, unless, dates_refusal, header_date_refusal, identity_refusal};
-ghost use Rattle.cif_records.specs.Checks.{last_date_refusal, public_time_refusal, work_time_refusal};
 
 use crate::Record;
 use cif_columns::{

@@ -78,8 +78,7 @@ impl fmt::Debug for Origin {
 }
 
 impl Origin {
-    ghost use Rattle.cif_records.specs.declared.origin.Origin.{Origin};
-    ghost use Rattle.cif_records.specs.Origin.{SpellsOrigin, origin_refusal, origin_table};
+    ghost use Rattle.cif_records.specs.{Origin.SpellsOrigin, Origin.origin_refusal, Origin.origin_table, declared.origin.Origin.Origin};
 
     /// The first location that the line spells, or the first reason in column order why it spells
     /// none: UnknownRecord (columns 1 to 2), BadTime (columns 11 to 19).

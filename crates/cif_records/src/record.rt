@@ -1,10 +1,9 @@
 //! The kinds of record, and a record of any kind.
 ghost use Rattle.std.specs.Prelude.{◌≡◌, IfSome, Some, IsTrue, Ok, find};
 ghost use Rattle.cif_columns.specs.{Field.columns, Field.plain_line, Line.IsLine};
-ghost use Rattle.cif_records.specs.Checks.{IsJudged};
-ghost use Rattle.cif_records.specs.Kind.{identity, is_identity, kind_in};
+ghost use Rattle.cif_records.specs.{Checks.IsJudged, Kind.identity, Kind.is_identity, Kind.kind_in, declared.record.Kind.Kind};
+ghost use Rattle.cif_records.specs.declared.record.Record.{Record};
 ghost use Rattle.cif_records.specs.Record.{IsPlainAs, IsPlainOf, SpellsRecord, record_refusal, record_table, refusal_as};
-ghost use Rattle.cif_records.specs.declared.{record.Kind.Kind, record.Record.Record};
 
 use crate::{
     Association, Basic, Change, Extra, Header, Origin, Stop, Terminus, Tiploc, Trailer, change,

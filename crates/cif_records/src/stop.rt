@@ -103,8 +103,7 @@ impl fmt::Debug for Stop {
 impl Stop {
     ghost use Rattle.std.specs.Prelude.{codes};
     ghost use Rattle.cif_columns.specs.Field.{StandsIn, columns, public_time, working_time};
-    ghost use Rattle.cif_records.specs.declared.stop.Stop.{Stop};
-    ghost use Rattle.cif_records.specs.Stop.{SpellsStop, stop_refusal, stop_table};
+    ghost use Rattle.cif_records.specs.{Stop.SpellsStop, Stop.stop_refusal, Stop.stop_table, declared.stop.Stop.Stop};
 
     /// The location on the way that the line spells, or the first reason in column order why it
     /// spells none: UnknownRecord (columns 1 to 2), BadTime (columns 11 to 33).

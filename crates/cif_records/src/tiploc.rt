@@ -43,8 +43,7 @@ impl fmt::Debug for Tiploc {
 }
 
 impl Tiploc {
-    ghost use Rattle.cif_records.specs.declared.tiploc.Tiploc.{Tiploc};
-    ghost use Rattle.cif_records.specs.Tiploc.{SpellsTiploc, tiploc_refusal, tiploc_table};
+    ghost use Rattle.cif_records.specs.{Tiploc.SpellsTiploc, Tiploc.tiploc_refusal, Tiploc.tiploc_table, declared.tiploc.Tiploc.Tiploc};
 
     /// The location that the line spells, or UnknownRecord (columns 1 to 2).
     #[tactic(auto, unfolding(crate::specs::Tiploc::tiploc_refusal))]

@@ -1,8 +1,7 @@
 //! What each command answers, for any devices, and which of them a job asks for.
 ghost use Rattle.std.specs.Prelude.{◌≡◌, IfErr};
 ghost use Rattle.cif_canon.specs.Fault.{IsNormaliseFault};
-ghost use Rattle.cif_columns.specs.Sink.{Writes};
-ghost use Rattle.cif_columns.specs.declared.line_reader.TheConstants.{MAX_LINES};
+ghost use Rattle.cif_columns.specs.{Sink.Writes, declared.line_reader.TheConstants.MAX_LINES};
 ghost use Rattle.cif_extract.specs.declared.fault.Fault.TheVariants.{Write};
 ghost use Rattle.cif_feed.specs.FeedAnswer.{IsHandedOn};
 ghost use Rattle.cif_tool.specs.Answer.{Answers, AreAnswered, AreComparedAs, Finishes, IsAnswered, IsCalendarAnswer, IsCheckAllAnswer};

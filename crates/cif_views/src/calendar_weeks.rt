@@ -4,8 +4,7 @@ ghost use Rattle.std.specs.List.{flat_map};
 ghost use Rattle.cif_calendar.specs.{DayState.AreDayStates, Entries.schedule_entries, Keys.of_key};
 ghost use Rattle.cif_canon.specs.{Appended.IsAppended, Normalised.FaultWrites, Normalised.IfWritten};
 ghost use Rattle.cif_extract.specs.ExtractParts.{extract_parts};
-ghost use Rattle.cif_views.specs.Steps.WeekCalendar.{state_in};
-ghost use Rattle.cif_views.specs.WeekCalendar.{IsWeekCalendar, IsWeekCalendarFault};
+ghost use Rattle.cif_views.specs.{Steps.WeekCalendar.state_in, WeekCalendar.IsWeekCalendar, WeekCalendar.IsWeekCalendarFault};
 ghost use Rattle.cif_views.specs.WeekCalendar.{cell, character, monday_columns, week_line, weeks_between};
 
 use cif_calendar::{DayState, Window, day_states, positions_of_key};

@@ -3,10 +3,9 @@ ghost use Rattle.std.specs.Prelude.{◌≡◌, ◌+◌, ◌≤◌, ◌++◌, ◌
 ghost use Rattle.std.specs.List.{flat_map};
 ghost use Rattle.arrayvec.specs.ArrayString.{array_string_len};
 ghost use Rattle.cif_columns.specs.Line.{ArePrintable};
-ghost use Rattle.cif_canon.specs.Appended.{IsAppended};
-ghost use Rattle.cif_canon.specs.Fields.{AreFields, line_of, width};
-ghost use Rattle.cif_views.specs.Calls.{call_text, calls_text, origin_fields, stop_fields, terminus_fields};
+ghost use Rattle.cif_canon.specs.{Appended.IsAppended, Fields.AreFields, Fields.line_of, Fields.width};
 ghost use Rattle.cif_canon.specs.declared.rows.Shape.TheVariants.{Trimmed};
+ghost use Rattle.cif_views.specs.Calls.{call_text, calls_text, origin_fields, stop_fields, terminus_fields};
 ghost use Rattle.cif_views.specs.Steps.Rows.{row_lines};
 
 use crate::listing::Listing;

@@ -1,7 +1,6 @@
 //! The columns of the tables: the name of each field, and where it stands in a line of each kind.
 ghost use Rattle.std.specs.Prelude.{◌≡◌, ◌+◌, ◌≤◌, ◌^◌, cond};
-ghost use Rattle.cif_views.specs.Steps.Columns.{span_in};
-ghost use Rattle.cif_views.specs.Tables.{extra_in, is_call, kind_of_line};
+ghost use Rattle.cif_views.specs.{Steps.Columns.span_in, Tables.extra_in, Tables.is_call, Tables.kind_of_line};
 
 use cif_columns::{Line, LineSlice};
 use cif_records::{Kind, kind_of};

@@ -3,16 +3,14 @@ ghost use Rattle.std.specs.Prelude.{◌≡◌, ◌≤◌, ◌++◌, [], ◌∷�
 ghost use Rattle.std.specs.List.{flat_map};
 ghost use Rattle.cif_columns.specs.{Field.columns, Sink.Writes};
 ghost use Rattle.cif_extract.specs.declared.fault.Fault.TheVariants.{Write};
-ghost use Rattle.cif_canon.specs.{Appended.IsAppended, Lines.schedule_plain};
-ghost use Rattle.cif_canon.specs.Fields.{after, nothing, trimmed};
+ghost use Rattle.cif_canon.specs.{Appended.IsAppended, Fields.after, Fields.nothing, Fields.trimmed, Lines.schedule_plain};
 ghost use Rattle.cif_canon.specs.declared.{listed_differences.Side.TheVariants.Left, rows.Format.TheVariants.Tsv};
 ghost use Rattle.cif_views.specs.DifferenceTable.{association_head, change_of, changed, difference_table, differing_rows};
 ghost use Rattle.cif_views.specs.DifferenceTable.{in_record, schedule_differences, text, without_extra};
-ghost use Rattle.cif_views.specs.Tables.{category_fields, type_fields};
+ghost use Rattle.cif_views.specs.{Tables.category_fields, Tables.type_fields, declared.columns.JourneyKind.TheVariants.Other};
 ghost use Rattle.cif_views.specs.Steps.Columns.{are_within, column, fields_in, is_span, named, room_for, row_behind};
 ghost use Rattle.cif_views.specs.Steps.DifferenceRows.{are_texts, count_of_calls, field_row, is_text, journeys_behind};
 ghost use Rattle.cif_views.specs.Steps.DifferenceRows.{own_columns, place_behind, places_behind, same_places};
-ghost use Rattle.cif_views.specs.declared.columns.JourneyKind.TheVariants.{Other};
 
 use crate::columns::{
     ASSOCIATION, ASSOCIATION_HEAD, BASIC, BASIC_HEAD, CALL, CHANGE, Column, ColumnRange, EXTRA,

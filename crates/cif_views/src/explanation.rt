@@ -3,13 +3,12 @@ ghost use Rattle.std.specs.Prelude.{◌≡◌, ◌+◌, ◌≤◌, ◌++◌, ◌
 ghost use Rattle.arrayvec.specs.ArrayString.{array_string_len};
 ghost use Rattle.cif_extract.specs.ExtractParts.{extract_parts};
 ghost use Rattle.cif_views.specs.Explanation.{IsExplanation, IsExplanationFault, mark_columns, said_of_association, said_of_train};
-ghost use Rattle.cif_views.specs.Explanation.{terms_fields};
+ghost use Rattle.cif_views.specs.{Explanation.terms_fields, Listing.date_field, Steps.Explanation.AreMarkedOn};
 ghost use Rattle.cif_canon.specs.Normalised.{FaultWrites, IfWritten};
-ghost use Rattle.cif_views.specs.Steps.Explanation.{AreMarkedOn, IsRisingBy, placed_of};
+ghost use Rattle.cif_views.specs.Steps.Explanation.{IsRisingBy, placed_of};
 ghost use Rattle.cif_columns.specs.Line.{ArePrintable};
 ghost use Rattle.cif_canon.specs.Fields.{after, row_start, separator, shown};
 ghost use Rattle.cif_canon.specs.declared.{rows.Format.TheVariants.Text, rows.Shape.TheVariants.Trimmed};
-ghost use Rattle.cif_views.specs.Listing.{date_field};
 
 use crate::heading::{ASSOCIATION_NAMES, write_heading};
 use crate::listing::Listing;

@@ -1,8 +1,7 @@
 //! Finding all clashes of an extract.
 ghost use Rattle.std.specs.Prelude.{◌≡◌, ◌↔◌, [], IfErr, IfOk, Some, slice_get};
 ghost use Rattle.cif_calendar.specs.{AllClashes.AreAllClashes, Keys.keyed};
-ghost use Rattle.cif_extract.specs.ExtractParts.{extract_parts};
-ghost use Rattle.cif_extract.specs.declared.{fault.Clash.Clash, fault.Fault.TheVariants.Memory};
+ghost use Rattle.cif_extract.specs.{ExtractParts.extract_parts, declared.fault.Clash.Clash, declared.fault.Fault.TheVariants.Memory};
 ghost use Rattle.cif_canon.specs.{Accepted.IsClearExtract, Fault.IsFirstClashIn};
 ghost use Rattle.cif_views.specs.Steps.Clashes.{AreAdded};
 

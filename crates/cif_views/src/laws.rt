@@ -1,9 +1,8 @@
 //! Laws: what the marks of an explanation and the letters of a calendar say, and what tables say.
 ghost use Rattle.std.specs.Prelude.{◌≡◌, ◌↔◌, ◌<◌, ◌≤◌, ◌^◌, ℕ, Contains, List, length};
 ghost use Rattle.cif_calendar.specs.{Clash.IsClear, Keys.keyed, Keys.of_key, Runs.Runs, Terms.Terms};
-ghost use Rattle.cif_canon.specs.{Accepted.IsAccepted, Canon.CanonParts, Canon.IsCanonOf, Fields.Field, Lines.ScheduleLines};
-ghost use Rattle.cif_canon.specs.{Meaning.SameMeaning};
-ghost use Rattle.cif_canon.specs.Differences.{AreDifferences, AreNone, DifferencesParts};
+ghost use Rattle.cif_canon.specs.{Accepted.IsAccepted, Canon.CanonParts, Canon.IsCanonOf, Differences.AreDifferences, Differences.AreNone};
+ghost use Rattle.cif_canon.specs.{Differences.DifferencesParts, Fields.Field, Lines.ScheduleLines, Meaning.SameMeaning};
 ghost use Rattle.cif_canon.specs.declared.asked.Asked.{Asked};
 ghost use Rattle.cif_extract.specs.ExtractParts.{ExtractParts};
 ghost use Rattle.cif_weeks.specs.declared.form.Form.{Form};
@@ -12,9 +11,8 @@ ghost use Rattle.cif_views.specs.AllFields.{ExplainedRowsHaveAll, TablesHaveAll,
 ghost use Rattle.cif_views.specs.{DifferenceTable.difference_names, DifferenceTable.difference_table, PublicCalls.ArePublicCalls};
 ghost use Rattle.cif_views.specs.{RowsOfDifferences.AreRowsOfFields, RowsOfDifferences.HaveRows, SameTables.HaveSameTables};
 ghost use Rattle.cif_views.specs.{Steps.PublicCalls.public_calls, Tables.TableFields, Tables.names_line, WeekCalendar.IsWeekCalendar};
-ghost use Rattle.cif_views.specs.{WeekCalendar.SaysWhatRuns};
+ghost use Rattle.cif_views.specs.{WeekCalendar.SaysWhatRuns, declared.marks.Mark.TheVariants.Wins};
 ghost use Rattle.cif_views.specs.Explanation.{AreExplained, Explained, HasWinningMark, SomeApplies};
-ghost use Rattle.cif_views.specs.declared.marks.Mark.TheVariants.{Wins};
 
 use crate::marks::ExplainedEntry;
 

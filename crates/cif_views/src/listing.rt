@@ -103,8 +103,7 @@ impl ListedRows {
 }
 
 impl DayLines for ListedRows {
-    ghost use Rattle.cif_views.specs.Listing.{association_line, day_heading, train_text};
-    ghost use Rattle.cif_views.specs.Steps.Rows.{first_field};
+    ghost use Rattle.cif_views.specs.{Listing.association_line, Listing.day_heading, Listing.train_text, Steps.Rows.first_field};
 
     ghost heading = { λ rows. day_heading rows.listing };
 

@@ -2,8 +2,7 @@
 ghost use Rattle.std.specs.Prelude.{◌≡◌, ◌<◌, ◌≤◌, ◌+◌, ◌^◌, ◌++◌, ◌∷◌, [], ℕ, IfSome, List, cond, length};
 ghost use Rattle.cif_columns.specs.{Activities.codes_in, Field.columns_from};
 ghost use Rattle.std.specs.List.{flat_map};
-ghost use Rattle.cif_canon.specs.{Appended.IsAppended, Fields.after};
-ghost use Rattle.cif_canon.specs.declared.rows.Format.TheVariants.{Tsv};
+ghost use Rattle.cif_canon.specs.{Appended.IsAppended, Fields.after, declared.rows.Format.TheVariants.Tsv};
 ghost use Rattle.cif_views.specs.{Moments.IsBy, Moments.IsOnTheWay, Steps.GatheredRows.AreRows, Steps.GatheredRows.IsGathered};
 ghost use Rattle.cif_views.specs.PublicCalls.{advertised, answer_of, pick_up, platform_in, public_fields, riders_in, riders_of};
 ghost use Rattle.cif_views.specs.PublicCalls.{said_by, set_down, times_in, times_of, working};

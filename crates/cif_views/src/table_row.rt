@@ -1,9 +1,8 @@
 //! The rows of tables, field by field.
 ghost use Rattle.std.specs.Prelude.{◌≡◌, ◌<◌, ◌≤◌, ◌+◌, ◌-◌, ◌++◌, ◌∷◌, [], IsTrue, List, codes, drop, length, replicate, take, ℕ};
 ghost use Rattle.cif_columns.specs.Field.{columns};
-ghost use Rattle.cif_canon.specs.Appended.{IsAppended};
+ghost use Rattle.cif_canon.specs.{Appended.IsAppended, declared.rows.Format.TheVariants.Tsv};
 ghost use Rattle.cif_canon.specs.Fields.{after, in_table, nothing, width_of};
-ghost use Rattle.cif_canon.specs.declared.rows.Format.TheVariants.{Tsv};
 ghost use Rattle.cif_views.specs.Steps.Columns.{IsOfShape, are_within, field_in, fields_in, is_span, is_within};
 ghost use Rattle.cif_views.specs.Steps.Columns.{name_fields, named, room_for, room_for_names, room_of};
 ghost use Rattle.cif_views.specs.Steps.GatheredRows.{AreRows, IsBegun, IsGathered};

@@ -6,10 +6,9 @@ ghost use Rattle.std.specs.Prelude.{List, MatchBool, Some, length, map, ℕ};
 ghost use Rattle.std.specs.List.Sorted.{IsNonDecreasingBy};
 ghost use Rattle.cif_columns.specs.Day.{IsDay, week_of};
 ghost use Rattle.cif_calendar.specs.Source.{body_at};
-ghost use Rattle.cif_weeks.specs.Steps.BodyRuns.{AreGrownTo, AreNextWeeks, AreRunsOfBody};
+ghost use Rattle.cif_weeks.specs.{Steps.BodyRuns.AreGrownTo, Steps.BodyRuns.AreNextWeeks, Steps.BodyRuns.AreRunsOfBody, Window.IsWithin};
 ghost use Rattle.cif_weeks.specs.Steps.Spans.{AgreeOn, HaveOneMask, IsDisputed, IsSourceAmong, Leads, Shows};
-ghost use Rattle.cif_weeks.specs.Window.{IsWithin, window_days};
-ghost use Rattle.cif_weeks.specs.declared.{form.Run.Run, span.Span.Span};
+ghost use Rattle.cif_weeks.specs.{Window.window_days, declared.form.Run.Run, declared.span.Span.Span};
 
 use crate::form::{Joining, Run};
 use crate::span::{Span, Weeks, no_days};

@@ -3,11 +3,10 @@
 ghost use Rattle.std.specs.Prelude.{◌≡◌, ◌<◌, ◌+◌, ◌↔◌, ℕ, All, Contains, IfOk, Some, length, map, slice_get, []};
 ghost use Rattle.cif_columns.specs.DaysRun.{RunsOn};
 ghost use Rattle.cif_calendar.specs.declared.key_calendar.Piece.{Piece};
-ghost use Rattle.cif_weeks.specs.Runs.{AreCanonicalRuns, AreSources, window_of};
-ghost use Rattle.cif_weeks.specs.{Steps.BodyRuns.AreRunsOfSpans, Steps.BodyRuns.HasBody, Steps.Spans.IsAgreed, Steps.Spans.Shows};
-ghost use Rattle.cif_weeks.specs.{Window.IsWithin, Window.window_days};
-ghost use Rattle.cif_weeks.specs.Steps.PieceSpans.{AreBySource, AreSpansBefore, HasBodyOn, IsWinnerOn, named};
+ghost use Rattle.cif_weeks.specs.{Runs.AreCanonicalRuns, Runs.AreSources, Runs.window_of, Steps.BodyRuns.AreRunsOfSpans};
+ghost use Rattle.cif_weeks.specs.{Steps.BodyRuns.HasBody, Steps.Spans.IsAgreed, Steps.Spans.Shows, Window.IsWithin, Window.window_days};
 ghost use Rattle.cif_weeks.specs.declared.span.Span.{Span};
+ghost use Rattle.cif_weeks.specs.Steps.PieceSpans.{AreBySource, AreSpansBefore, HasBodyOn, IsWinnerOn, named};
 
 use crate::body_runs::{add_body_runs, have_one_body, source_of};
 use crate::form::{Form, Joining, Run, sort_by_first};

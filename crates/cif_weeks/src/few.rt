@@ -2,9 +2,8 @@
 
 ghost use Rattle.std.specs.Prelude.{◌≡◌, ◌≢◌, ◌<◌, ◌⊎◌, [], All, IfOk, MatchBool, ℕ, length, map};
 ghost use Rattle.std.specs.List.Sorted.{IsNonDecreasingBy};
-ghost use Rattle.cif_weeks.specs.{MemberRuns.AreRunsOfMembers, MemberRuns.HaveClash, Steps.Spans.IsDisputed, Steps.Spans.Shows};
-ghost use Rattle.cif_weeks.specs.{Window.IsWithin, Window.window_days};
-ghost use Rattle.cif_weeks.specs.Steps.BodyRuns.{AreRunsOfSpans, HasBody, HasSource};
+ghost use Rattle.cif_weeks.specs.{MemberRuns.AreRunsOfMembers, MemberRuns.HaveClash, Steps.BodyRuns.AreRunsOfSpans, Steps.BodyRuns.HasBody};
+ghost use Rattle.cif_weeks.specs.{Steps.BodyRuns.HasSource, Steps.Spans.IsDisputed, Steps.Spans.Shows, Window.IsWithin, Window.window_days};
 
 use crate::body_runs::{add_body_runs, source_of};
 use crate::form::{Form, Joining, Run, sort_by_first};

@@ -3,8 +3,7 @@
 
 ghost use Rattle.std.specs.Prelude.{◌≡◌, ◌<◌, ◌+◌, ◌↔◌, ℕ, IsPermutation, IsTrue, MatchBool};
 ghost use Rattle.std.specs.List.Sorted.{IsNonDecreasingBy};
-ghost use Rattle.cif_weeks.specs.Steps.WeekMasks.{Counts, MasksAgree, MasksDiffer};
-ghost use Rattle.cif_weeks.specs.Window.{window_days};
+ghost use Rattle.cif_weeks.specs.{Steps.WeekMasks.Counts, Steps.WeekMasks.MasksAgree, Steps.WeekMasks.MasksDiffer, Window.window_days};
 
 use cif_calendar::Window;
 use cif_columns::{DAYS_IN_WEEK, Day, DaysRun};

@@ -2,10 +2,9 @@
 //! calendar.
 ghost use Rattle.std.specs.Prelude.{◌≡◌, ℕ, List, Option, Some, All, Contains};
 ghost use Rattle.cif_calendar.specs.{Calendar.CalendarParts, Calendar.IsCalendar, Source.IsWinnerAt, Terms.Terms};
-ghost use Rattle.cif_weeks.specs.{Applies.Applies, Meets.Meets, Permanent.Permanent, Runs.AreCanonicalRuns, Runs.AreSources};
-ghost use Rattle.cif_weeks.specs.{Window.IsWithin, Window.Window};
+ghost use Rattle.cif_weeks.specs.{Applies.Applies, Canonical.AreCanonical, Canonical.SayTheSameByKey, Canonical.SayWhatRunsByKey};
+ghost use Rattle.cif_weeks.specs.{Meets.Meets, Permanent.Permanent, Runs.AreCanonicalRuns, Runs.AreSources, Window.IsWithin, Window.Window};
 ghost use Rattle.cif_weeks.specs.declared.{form.Form.Form, form.Run.Run};
-ghost use Rattle.cif_weeks.specs.Canonical.{AreCanonical, SayWhatRunsByKey, SayTheSameByKey};
 
 /// The canonical records of a key are unique: two lists that meet one form for one window, and
 /// for what runs on each of its days, are equal.

@@ -1,8 +1,8 @@
 -- The text is a fold over runs: one more goes behind it (`one-more`). Each run has a record, and its text is that of the writer's body
 -- (`schedule-text`).
-use Rattle.cif_canon.proofs.Names.{HasRecord, Schedule, Some, ap, length, record_of, schedule_entries, schedule_entry, schedule_run_text}
-use Rattle.cif_canon.proofs.Names.{schedule_text, subst, sym, ◌<◌, ◌∙◌, ◌≡◌}
-use Rattle.cif_canon.proofs.AppendedTexts.{all-items, appended, one-more, text-is}
+use Rattle.cif_canon.proofs.Names.{HasRecord, Schedule, Some, ap, arith, length, record_of, schedule_entries, schedule_entry}
+use Rattle.cif_canon.proofs.Names.{schedule_run_text, schedule_text, subst, sym, ◌<◌, ◌∙◌, ◌≡◌}
+use Rattle.cif_canon.proofs.AppendedTexts.{all-items, appended, nothing, one-more, text-is}
 use Rattle.cif_canon.proofs.{RunTexts.record-within, RunTexts.schedule-text, canonical_form.write_schedules.Given.Over}
 use Rattle.cif_canon.{proofs.canonical_form.write_schedules.Goals.After-index-runs-at, specs.Steps.Texts.body_at}
 use Rattle.cif_canon.proofs.canonical_form.write_schedules.Goals as goal
@@ -34,3 +34,16 @@ pub returns : goal.returns
 returns g c =
     all-items _ _ (schedule_run_text (schedule_entries c.args.schedules.now)) c.args.runs.now c.loop-at.at _ _ c.loop-at.invariant.0
     c.loop-at-test.false
+
+pub set_body-requires-clause-record : goal.set_body-requires-clause-record
+set_body-requires-clause-record g c = has g (goal.at.set_body-requires-clause-record g c).After-index-runs-at
+
+pub bounds-schedules-run : goal.bounds-schedules-run
+bounds-schedules-run g c = within g (goal.at.bounds-schedules-run g c).After-index-runs-at
+
+pub offset_bounds-schedules-run : goal.offset_bounds-schedules-run
+offset_bounds-schedules-run g c =
+    let below = within g (goal.at.offset_bounds-schedules-run g c).After-index-runs-at in omega (arith, below)
+
+pub loop-at-init : goal.loop-at-init
+loop-at-init g c = (nothing _ _ _, c.body_of.ensures ∙ ap Some (sym c.of-writer.ensures))

@@ -36,3 +36,15 @@ returns g c =
       right = c.in_ok-rights.ensures.runs;
       appended = rw (c.as_slice.ensures.value, c.as_slice-2.ensures.value) at are;
     }) c.push_merged.ensures
+
+pub are_alike-requires : goal.are_alike-requires
+are_alike-requires g c = c.requires
+
+pub only_runs-requires : goal.only_runs-requires
+only_runs-requires g c = c.requires
+
+pub push_merged-requires-clause-left : goal.push_merged-requires-clause-left
+push_merged-requires-clause-left g c = rw c.as_slice.ensures.value c.in_ok-lefts.ensures.rising
+
+pub push_merged-requires-clause-right : goal.push_merged-requires-clause-right
+push_merged-requires-clause-right g c = rw c.as_slice-2.ensures.value c.in_ok-rights.ensures.rising

@@ -70,3 +70,15 @@ returns-clause-records g c =
     (AreLawful-of_key g.E.Entry.key g.E.Entry.terms g.met.E.Entry.cancelled c.args.entries.now) c.loop-rest.all.items
     (subst (λ (rest : List ℕ). IsMade g.E.Key.Ord.cmp c.args.form window es c.loop-rest.all.items rest)
     (nil_from_length c.loop-rest.rest.now (eqb-true _ _ (sym c.loop-rest-test.ensures))) c.loop-rest.invariant.made)
+
+pub look_ahead-requires : goal.look_ahead-requires
+look_ahead-requires g c = record { within = All-take (λ i. i < length c.args.entries.now) _ _ c.loop-rest.invariant.within }
+
+pub count_of_first_key-requires-clause-within : goal.count_of_first_key-requires-clause-within
+count_of_first_key-requires-clause-within g c = c.loop-rest.invariant.within
+
+pub count_of_first_key-requires-clause-rising : goal.count_of_first_key-requires-clause-rising
+count_of_first_key-requires-clause-rising g c = c.loop-rest.invariant.made.rising
+
+pub split_at-requires : goal.split_at-requires
+split_at-requires g c = c.count_of_first_key.ensures.count.upto

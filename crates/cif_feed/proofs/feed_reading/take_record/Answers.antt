@@ -90,3 +90,8 @@ returns-in_ok-put_tiploc-in-Ti-default c =
     put (goal.at.returns-in_ok-put_tiploc-in-Ti-default c).Else-not-allows (of.Tiploc read.result.0) (read.ensures.spells c.args.allowed)
     (progress_of c.put_tiploc.new.self) (mark.Tiploc read.result.1) c.in-Some.kind refl (read.ensures.mark c.args.allowed)
     (tt, c.in_ok-put_tiploc-in-Ti-default.ensures)
+
+-- ---- any other
+
+pub returns-in_default-2 : goal.returns-in_default-2
+returns-in_default-2 c = c.take_own.ensures c.args.allowed c.args.number
