@@ -1,5 +1,6 @@
 -- The clash dates of one stretch more are found (`made-next`).
-use Rattle.cif_calendar.proofs.{DayStates.made-next, DayStates.stretch-here, LaidPieces.next-day, Names.arith, Names.◌∙◌}
+use Rattle.cif_calendar.proofs.{DayStates.made-all, DayStates.made-next, DayStates.stretch-here, LaidPieces.next-day, Names.arith}
+use Rattle.cif_calendar.proofs.Names.{drop_all, ◌∙◌}
 use Rattle.cif_calendar.proofs.clashing_dates.dates_of.Goals as goal
 
 pub add_dates-requires : goal.add_dates-requires
@@ -18,3 +19,7 @@ loop-stretch-preserved g c =
       (let order = stretch.1.in_order in let from = so_far.0 in omega arith),
       c.in_ok-add_dates.ensures c.args.window.now.first so_far.0 so_far.1,
     ))
+
+pub returns : goal.returns
+returns g c = (made-all _ _ _ _ _ _ _ c.loop-stretch.invariant
+    (drop_all c.loop-stretch.stretch-index c.args.stretches.now c.loop-stretch-test.false)).1
