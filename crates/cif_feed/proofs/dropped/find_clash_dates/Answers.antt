@@ -58,3 +58,16 @@ returns g c =
     (subst (λ (rest : List ℕ). AreFoundUpTo g.E.Key.Ord.cmp es are g.E.NamedEntry.clash_of
     g.E.Entry.stands_for c.args.reported.now.items c.loop-rest.reported.items (get g.E.Rank.Ord.cmp c.loop-rest.dates) rest)
     (nil_from_length c.loop-rest.rest.now (eqb-true _ _ (sym c.loop-rest-test.ensures))) c.loop-rest.invariant.found)
+
+pub count_of_first_key-requires-clause-within : goal.count_of_first_key-requires-clause-within
+count_of_first_key-requires-clause-within g c = c.loop-rest.invariant.within
+
+pub count_of_first_key-requires-clause-rising : goal.count_of_first_key-requires-clause-rising
+count_of_first_key-requires-clause-rising g c = c.loop-rest.invariant.found.searched.rising
+
+pub split_at-requires : goal.split_at-requires
+split_at-requires g c = c.count_of_first_key.ensures.count.upto
+
+pub counted_clash_dates-requires : goal.counted_clash_dates-requires
+counted_clash_dates-requires g c =
+    rw c.split_at.ensures.front (All-take (λ i. i < length c.args.entries.now) _ _ c.loop-rest.invariant.within)
