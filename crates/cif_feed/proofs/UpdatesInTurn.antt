@@ -1,7 +1,7 @@
 -- An update that was read is done, or a line of it is refused; and updates are done one after another.
 use Rattle.cif_feed.proofs.Names.{AlreadyThere, AreAfter, AreRefused, AreRefusedLines, Bool, BytesSpellPublished, BytesSpellUpdate, Err}
-use Rattle.cif_feed.proofs.Names.{FeedFault, FitsColumns, HandsOn, Header, IfOk, IsDone, IsFailure, IsLineRefused, IsUpdateFault, IsUpdateOf}
-use Rattle.cif_feed.proofs.Names.{IsUpdated, IsUpdatedBy, List, Makes, MatchResult, MayBeDone, NotThere, Ok, PublishedAssociation}
+use Rattle.cif_feed.proofs.Names.{FeedFault, FitsColumns, HandsOn, Header, IfOk, IsDone, IsFailure, IsLineRefused, IsUpdateFault}
+use Rattle.cif_feed.proofs.Names.{IsUpdateOf, IsUpdated, IsUpdatedBy, List, Makes, MatchResult, MayBeDone, NotThere, Ok, PublishedAssociation}
 use Rattle.cif_feed.proofs.Names.{PublishedParts, PublishedSchedule, RecordChange, RefusedLine, Refuses, Result, Some, Tiploc, Unread}
 use Rattle.cif_feed.proofs.Names.{UpdateParts, [], all_codes, ap, append-nil, append_assoc, append_cancel_left, changes_of, cond}
 use Rattle.cif_feed.proofs.Names.{contents_of, false, inr, last_line, length, of_profile, published_lines, published_text, reading_update}
