@@ -1,12 +1,12 @@
 -- An update that was read is done, or a line of it is refused; and updates are done one after another.
 use Rattle.cif_feed.proofs.Names.{AlreadyThere, AreAfter, AreRefused, AreRefusedLines, Bool, BytesSpellPublished, BytesSpellUpdate, Err}
 use Rattle.cif_feed.proofs.Names.{FeedFault, FitsColumns, HandsOn, Header, IfOk, IsDone, IsFailure, IsLineRefused, IsUpdateFault}
-use Rattle.cif_feed.proofs.Names.{IsUpdateOf, IsUpdated, IsUpdatedBy, List, Makes, MatchResult, MayBeDone, NotThere, Ok, PublishedAssociation}
-use Rattle.cif_feed.proofs.Names.{PublishedParts, PublishedSchedule, RecordChange, RefusedLine, Refuses, Result, Some, Tiploc, Unread}
-use Rattle.cif_feed.proofs.Names.{UpdateParts, [], all_codes, ap, append-nil, append_assoc, append_cancel_left, changes_of, cond}
-use Rattle.cif_feed.proofs.Names.{contents_of, false, inr, last_line, length, of_profile, published_lines, published_text, reading_update}
-use Rattle.cif_feed.proofs.Names.{refl, refused_header, reported_once, same_values, slice_get, subst, sym, true≢false, update_parts}
-use Rattle.cif_feed.proofs.Names.{updating, with_keys, ℕ, ⊎_elim, ◌++◌, ◌==◌, ◌↔◌, ◌∙◌, ◌∷◌, ◌≡◌, ◌≤◌}
+use Rattle.cif_feed.proofs.Names.{IsUpdateOf, IsUpdated, IsUpdatedBy, List, Makes, MatchResult, MayBeDone, NotThere, Ok}
+use Rattle.cif_feed.proofs.Names.{PublishedAssociation, PublishedParts, PublishedSchedule, RecordChange, RefusedLine, Refuses, Result, Some}
+use Rattle.cif_feed.proofs.Names.{Tiploc, Unread, UpdateParts, [], all_codes, ap, append-nil, append_assoc, append_cancel_left, changes_of}
+use Rattle.cif_feed.proofs.Names.{cond, contents_of, false, inr, last_line, length, of_profile, published_lines, published_text}
+use Rattle.cif_feed.proofs.Names.{reading_update, refl, refused_header, reported_once, same_values, slice_get, subst, sym, true≢false}
+use Rattle.cif_feed.proofs.Names.{update_parts, updating, with_keys, ℕ, ⊎_elim, ◌++◌, ◌==◌, ◌↔◌, ◌∙◌, ◌∷◌, ◌≡◌, ◌≤◌}
 use Rattle.cif_feed.proofs.{ChangeLaws.after_all-alike, ChangeLaws.refusals-alike, ChangeLaws.same_alike, FittingUpdates.updated_fits}
 use Rattle.cif_feed.proofs.PublishedTexts.{may_any, published-lines, published-spells, said_fits}
 use Rattle.cif_feed.proofs.SpelledFeeds.{one_published, one_update, spelled_first, update_blames_none}
