@@ -4,11 +4,14 @@ ghost use Rattle.cif_calendar.specs.{Keys.ArePositionsOf, Keys.keyed, Ranks.AreR
 ghost use Rattle.cif_calendar.specs.ByKey.{AreAllByKey, AreFrom, AreOfFirstKey, IsFirstKey};
 ghost use Rattle.cif_calendar.specs.ByKey.{IsCountOfKey, IsFirstOfBoth, IsFirstOrNone, IsRising};
 
-use crate::entry::Entry;
+use crate::entry::{Entry, RankedEntry};
 use std::alloc::{AllocError, Global};
 
 /// The positions of all entries, in the order of their keys.
-pub fn positions_by_key<E: Entry>(alloc: Global, entries: &[E]) -> Result<Vec<usize>, AllocError>
+pub fn positions_by_key<E: RankedEntry>(
+    alloc: Global,
+    entries: &[E],
+) -> Result<Vec<usize>, AllocError>
     ensures { IfOk result (λ positions.
         AreAllByKey E.Key.cmp (keyed E.key E.terms entries.now) positions.items) }
 {
@@ -30,7 +33,7 @@ pub fn positions_by_key<E: Entry>(alloc: Global, entries: &[E]) -> Result<Vec<us
 }
 
 /// The positions of all entries, each behind what stands for its key.
-fn ranked_positions<E: Entry>(
+fn ranked_positions<E: RankedEntry>(
     alloc: Global,
     entries: &[E],
 ) -> Result<Vec<(E::Rank, usize)>, AllocError>

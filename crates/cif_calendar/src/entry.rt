@@ -17,17 +17,11 @@ pub trait Entry {
     /// What the record is about: a train's UID, or the five fields that name an association.
     type Key: Ord;
 
-    /// What stands for a key where keys are sorted.
-    type Rank: Ord + Drop;
-
     /// What runs on the record's dates. Two bodies that are equal are the same thing to run.
     type Body: Eq;
 
     // What the record is about.
     ghost key: { Self → Self.Key };
-
-    // The rank stands for the key.
-    ghost stands_for: { Self.Rank → Self.Key → Type 0 };
 
     // Its dates, its letter and what runs.
     ghost terms: { Self → Terms Self.Body };
@@ -35,10 +29,6 @@ pub trait Entry {
     /// What the record is about.
     fn key(&self) -> &Self::Key
         ensures { result.now ≡ key self.now };
-
-    /// What stands for the key of the record.
-    fn rank(&self) -> Self::Rank
-        ensures { stands_for result (key self.now) };
 
     /// The first date on which the record may apply.
     fn first(&self) -> Day
@@ -63,10 +53,6 @@ pub trait Entry {
     // Keys that compare equal are the same key; that their order is total is a law of `Ord`.
     ghost same_key: { (a b : Self.Key) → IsTrue (Self.Key.eq a b) ↔ (a ≡ b) };
 
-    // Ranks have the order of their keys.
-    ghost same_order: { (r s : Self.Rank) (a b : Self.Key) → stands_for r a → stands_for s b
-        → Self.Rank.cmp r s ≡ Self.Key.cmp a b };
-
     // Bodies that compare equal are the same body.
     ghost same_body: { (a b : Self.Body) → IsTrue (Self.Body.eq a b) ↔ (a ≡ b) };
 
@@ -77,30 +63,38 @@ pub trait Entry {
     ghost cancelled: { (e : Self) → IsNone (terms e).body ↔ ((terms e).letter ≡ C) };
 }
 
+/// An entry with what stands for its key where keys are sorted.
+pub trait RankedEntry: Entry {
+    /// What stands for a key.
+    type Rank: Ord + Drop;
+
+    // The rank stands for the key.
+    ghost stands_for: { Self.Rank → Self.Key → Type 0 };
+
+    /// What stands for the key of the record.
+    fn rank(&self) -> Self::Rank
+        ensures { stands_for result (Self.key self.now) };
+
+    // Ranks have the order of their keys.
+    ghost same_order: { (r s : Self.Rank) (a b : Self.Key) → stands_for r a → stands_for s b
+        → Self.Rank.cmp r s ≡ Self.Key.cmp a b };
+}
+
 impl Entry for Association {
     type Key = AssocKey;
-
-    type Rank = AssocKey;
 
     type Body = AssocBody;
 
     ghost use Rattle.std.proofs.{Common.rules, lemmas.Grind.common_steps};
-    ghost use Rattle.cif_records.specs.AssocKey.{key_cmp};
-    ghost use Rattle.cif_calendar.specs.{Entries.association_terms, Laws.Bodied.cancelled-from_bodied, Laws.Ranks.order_of_keys};
+    ghost use Rattle.cif_calendar.specs.{Entries.association_terms, Laws.Bodied.cancelled-from_bodied};
     ghost use Rattle.std.specs.Cmp.Lexicographic.{pointwise_decides, bytes_decides};
 
     ghost key = { λ a. a.key };
-
-    ghost stands_for = { λ rank key. rank ≡ key };
 
     ghost terms = { association_terms };
 
     fn key(&self) -> &AssocKey {
         &self.key
-    }
-
-    fn rank(&self) -> AssocKey {
-        self.key.copy()
     }
 
     fn first(&self) -> Day {
@@ -127,38 +121,41 @@ impl Entry for Association {
 
     ghost same_body = { Prim.search (rules, common_steps, pointwise_decides, bytes_decides) };
 
-    ghost same_order = { order_of_keys key_cmp };
-
     ghost dates_ordered = { λ a. a.in_order };
 
     ghost cancelled = { λ a. cancelled-from_bodied a.letter a.body a.bodied };
 }
 
+impl RankedEntry for Association {
+    type Rank = AssocKey;
+
+    ghost use Rattle.cif_records.specs.AssocKey.{key_cmp};
+    ghost use Rattle.cif_calendar.specs.Laws.Ranks.{order_of_keys};
+
+    ghost stands_for = { λ rank key. rank ≡ key };
+
+    fn rank(&self) -> AssocKey {
+        self.key.copy()
+    }
+
+    ghost same_order = { order_of_keys key_cmp };
+}
+
 impl Entry for Schedule {
     type Key = Uid;
-
-    // The columns as one number, since two numbers are compared in a third of the time.
-    type Rank = u64;
 
     type Body = Body;
 
     ghost use Rattle.std.proofs.{Common.rules, lemmas.Grind.common_steps};
-    ghost use Rattle.cif_calendar.specs.{Entries.schedule_terms, Laws.Bodied.cancelled-from_bodied, Laws.Ranks.order_of_numbers};
-    ghost use Rattle.cif_calendar.specs.{Ranks.IsNumberOf};
+    ghost use Rattle.cif_calendar.specs.{Entries.schedule_terms, Laws.Bodied.cancelled-from_bodied};
     ghost use Rattle.std.specs.Cmp.Lexicographic.{bytes_decides, pointwise_decides};
 
     ghost key = { λ s. s.uid };
-
-    ghost stands_for = { IsNumberOf };
 
     ghost terms = { schedule_terms };
 
     fn key(&self) -> &Uid {
         &self.uid
-    }
-
-    fn rank(&self) -> u64 {
-        uid_number(&self.uid)
     }
 
     fn first(&self) -> Day {
@@ -185,11 +182,24 @@ impl Entry for Schedule {
 
     ghost same_body = { pointwise_decides bytes_decides };
 
-    ghost same_order = { order_of_numbers };
-
     ghost dates_ordered = { λ s. s.in_order };
 
     ghost cancelled = { λ s. cancelled-from_bodied s.letter s.body s.bodied };
+}
+
+impl RankedEntry for Schedule {
+    // The columns as one number, since two numbers are compared in a third of the time.
+    type Rank = u64;
+
+    ghost use Rattle.cif_calendar.specs.{Laws.Ranks.order_of_numbers, Ranks.IsNumberOf};
+
+    ghost stands_for = { IsNumberOf };
+
+    fn rank(&self) -> u64 {
+        uid_number(&self.uid)
+    }
+
+    ghost same_order = { order_of_numbers };
 }
 
 /// The columns of a UID as one number.

@@ -5,7 +5,7 @@ ghost use Rattle.cif_calendar.specs.{Steps.Clashes.IsFaultAdded};
 
 use crate::applies::Window;
 use crate::by_key::{count_of_first_key, positions_by_key};
-use crate::entry::Entry;
+use crate::entry::{Entry, RankedEntry};
 use crate::key_calendar::CalendarFault;
 use crate::stretch::calendar;
 use cif_columns::Day;
@@ -21,7 +21,7 @@ pub struct KeyClash {
 }
 
 /// The keys of the entries that have a clash in the window, rising, each once.
-pub fn clashing_keys<E: Entry>(
+pub fn clashing_keys<E: RankedEntry>(
     alloc: Global,
     entries: &[E],
     window: &Window,

@@ -13,7 +13,7 @@ use crate::differing::{
 use crate::listed_differences::{Side, Sided};
 use crate::tiplocs::different_tiplocs;
 use arrayvec::ArrayString;
-use cif_calendar::{CalendarFault, Entry, Window};
+use cif_calendar::{CalendarFault, Entry, RankedEntry, Window};
 use cif_columns::{Day, Sink, Uid, WriteDevice, WriteFault, as_text};
 use cif_extract::{Clash, Extract, Fault};
 use cif_records::{AssocKey, Tiploc};
@@ -150,7 +150,7 @@ fn first_found<'x>(
 
 /// The first key, and its first date of the window, of which the two lists say different things: an
 /// entry with the key, and the date. Where there is none, neither list has a clash in the window.
-fn first_difference<'a, E: Entry>(
+fn first_difference<'a, E: RankedEntry>(
     alloc: Global,
     left: &'a [E],
     right: &'a [E],

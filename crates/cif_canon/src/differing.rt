@@ -13,7 +13,9 @@ use crate::extract_runs::extract_runs;
 use crate::listed_differences::{Side, Sided, push_next};
 use crate::only_days::{are_alike, only_runs};
 use crate::tiplocs::different_tiplocs;
-use cif_calendar::{Calendar, CalendarFault, Entry, Window, calendar, first_key, positions_by_key};
+use cif_calendar::{
+    Calendar, CalendarFault, Entry, RankedEntry, Window, calendar, first_key, positions_by_key,
+};
 use cif_extract::{Extract, Fault};
 use cif_weeks::{Form, Run};
 use std::alloc::{AllocError, Global};
@@ -180,7 +182,7 @@ fn is_enough(extent: Extent, runs: &[Sided<Run>]) -> bool
 /// then first date, left before right: those of all keys, or of the first that has any. The source of
 /// a run is the position of an entry of its side, with the record's key and body. Ambiguous comes where
 /// a key of either list has a clash in the window.
-pub(crate) fn different_records<E: Entry>(
+pub(crate) fn different_records<E: RankedEntry>(
     alloc: Global,
     left: &[E],
     right: &[E],

@@ -9,7 +9,8 @@ ghost use Rattle.cif_canon.specs.Steps.Records.{AreCanonicalRecords, IsRecordsFa
 ghost use Rattle.cif_weeks.specs.Window.{window_days};
 
 use cif_calendar::{
-    CalendarFault, Entry, NamedEntry, Window, calendar, count_of_first_key, positions_by_key,
+    CalendarFault, Entry, NamedEntry, RankedEntry, Window, calendar, count_of_first_key,
+    positions_by_key,
 };
 use cif_columns::Day;
 use cif_extract::{Extract, Fault};
@@ -112,7 +113,7 @@ fn look_ahead<E: Entry>(entries: &[E], positions: &[usize])
 ///
 /// Ambiguous comes only where on some date two winners of a key have different bodies, and names the
 /// first such key and its first such date; Memory where memory ran out.
-pub(crate) fn runs_of_entries<E: NamedEntry>(
+pub(crate) fn runs_of_entries<E: NamedEntry + RankedEntry>(
     alloc: Global,
     entries: &[E],
     window: &Window,

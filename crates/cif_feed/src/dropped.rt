@@ -10,7 +10,7 @@ use crate::prepare::ClashDates;
 use crate::prepared_record::RisingDays;
 use crate::published_entry::PublishedEntry;
 use arrayvec::ArrayString;
-use cif_calendar::{NamedEntry, Window, count_of_first_key, positions_by_key};
+use cif_calendar::{NamedEntry, RankedEntry, Window, count_of_first_key, positions_by_key};
 use cif_columns::Day;
 use cif_extract::Clash;
 use itoa::Buffer;
@@ -75,7 +75,7 @@ impl Dropped {
 }
 
 /// The dates of the window on which keys of the entries clash. These keys are appended to the list, rising.
-pub(crate) fn find_clash_dates<E: PublishedEntry>(
+pub(crate) fn find_clash_dates<E: PublishedEntry + RankedEntry>(
     alloc: Global,
     entries: &[E],
     holidays: &Holidays,
@@ -99,7 +99,7 @@ pub(crate) fn find_clash_dates<E: PublishedEntry>(
 }
 
 /// Lists the key of the entry with its clash dates, if it has one.
-fn list_key<E: NamedEntry>(
+fn list_key<E: NamedEntry + RankedEntry>(
     entry: &E,
     found: Vec<Day>,
     dates: &mut ClashDates<E::Rank>,

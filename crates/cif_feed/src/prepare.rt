@@ -21,7 +21,7 @@ use crate::{
     Dropped, DroppedKey, FeedFault, Holidays, PreparedRecord, PublishedAssociation,
     PublishedExtract, PublishedSchedule,
 };
-use cif_calendar::{Entry, Window};
+use cif_calendar::{Entry, RankedEntry, Window};
 use cif_columns::{Day, MAX_LINES, ReadDevice, Sink, Source, WriteDevice, WriteFault};
 use cif_extract::Schedule;
 use cif_records::{AssocKey, Association};
@@ -278,7 +278,7 @@ impl<'a> Prepared<'a> {
 pub(crate) type ClashDates<R> = BTreeMap<R, RisingDays>;
 
 /// The dates on which the key of the entry clashes.
-pub(crate) fn dates_of<'d, E: Entry>(dates: &'d ClashDates<E::Rank>, entry: &E) -> &'d [Day]
+pub(crate) fn dates_of<'d, E: RankedEntry>(dates: &'d ClashDates<E::Rank>, entry: &E) -> &'d [Day]
     ensures reads { (days : E.Key → List ℕ) → ReadsDates E.stands_for days (get E.Rank.cmp dates.now)
         → result.now ≡ days (E.key entry.now) }
     ensures rising { IsNonDecreasing result.now }

@@ -3,7 +3,7 @@ ghost use Rattle.std.specs.Prelude.{◌≡◌, ◌↔◌, Some, IsTrue};
 ghost use Rattle.cif_feed.specs.declared.holidays.HolidayCode.{HolidayCode};
 
 use crate::{HolidayCode, PublishedAssociation, PublishedSchedule};
-use cif_calendar::{Entry, NamedEntry};
+use cif_calendar::{Entry, NamedEntry, RankedEntry};
 use cif_columns::{Day, DaysRun, Stp, Uid};
 use cif_extract::{Body, Clash};
 use cif_records::{AssocBody, AssocKey};
@@ -34,27 +34,18 @@ pub(crate) fn is_of<E: PublishedEntry>(entry: &E, code: HolidayCode) -> bool
 impl Entry for PublishedAssociation {
     type Key = AssocKey;
 
-    type Rank = AssocKey;
-
     type Body = AssocBody;
 
-    ghost use Rattle.cif_calendar.specs.{Entries.association_terms, Laws.Bodied.cancelled-from_bodied, Laws.Ranks.order_of_keys};
-    ghost use Rattle.cif_records.specs.AssocKey.{key_cmp};
+    ghost use Rattle.cif_calendar.specs.{Entries.association_terms, Laws.Bodied.cancelled-from_bodied};
     ghost use Rattle.std.proofs.{Common.rules, lemmas.Grind.common_steps};
     ghost use Rattle.std.specs.Cmp.Lexicographic.{bytes_decides, pointwise_decides};
 
     ghost key = { λ a. a.association.key };
 
-    ghost stands_for = { λ rank key. rank ≡ key };
-
     ghost terms = { λ a. association_terms a.association };
 
     fn key(&self) -> &AssocKey {
         self.association.key()
-    }
-
-    fn rank(&self) -> AssocKey {
-        self.association.rank()
     }
 
     fn first(&self) -> Day {
@@ -81,11 +72,23 @@ impl Entry for PublishedAssociation {
 
     ghost same_body = { Prim.search (rules, common_steps, pointwise_decides, bytes_decides) };
 
-    ghost same_order = { order_of_keys key_cmp };
-
     ghost dates_ordered = { λ a. a.association.in_order };
 
     ghost cancelled = { λ a. cancelled-from_bodied a.association.letter a.association.body a.association.bodied };
+}
+
+impl RankedEntry for PublishedAssociation {
+    type Rank = AssocKey;
+
+    ghost use Rattle.{cif_calendar.specs.Laws.Ranks.order_of_keys, cif_records.specs.AssocKey.key_cmp};
+
+    ghost stands_for = { λ rank key. rank ≡ key };
+
+    fn rank(&self) -> AssocKey {
+        self.association.rank()
+    }
+
+    ghost same_order = { order_of_keys key_cmp };
 }
 
 impl NamedEntry for PublishedAssociation {
@@ -114,27 +117,18 @@ impl PublishedEntry for PublishedAssociation {
 impl Entry for PublishedSchedule {
     type Key = Uid;
 
-    type Rank = u64;
-
     type Body = Body;
 
-    ghost use Rattle.cif_calendar.specs.{Entries.schedule_terms, Laws.Bodied.cancelled-from_bodied, Laws.Ranks.order_of_numbers};
-    ghost use Rattle.cif_calendar.specs.{Ranks.IsNumberOf};
+    ghost use Rattle.cif_calendar.specs.{Entries.schedule_terms, Laws.Bodied.cancelled-from_bodied};
     ghost use Rattle.std.proofs.{Common.rules, lemmas.Grind.common_steps};
     ghost use Rattle.std.specs.Cmp.Lexicographic.{bytes_decides, pointwise_decides};
 
     ghost key = { λ s. s.schedule.uid };
 
-    ghost stands_for = { IsNumberOf };
-
     ghost terms = { λ s. schedule_terms s.schedule };
 
     fn key(&self) -> &Uid {
         self.schedule.key()
-    }
-
-    fn rank(&self) -> u64 {
-        self.schedule.rank()
     }
 
     fn first(&self) -> Day {
@@ -161,11 +155,23 @@ impl Entry for PublishedSchedule {
 
     ghost same_body = { pointwise_decides bytes_decides };
 
-    ghost same_order = { order_of_numbers };
-
     ghost dates_ordered = { λ s. s.schedule.in_order };
 
     ghost cancelled = { λ s. cancelled-from_bodied s.schedule.letter s.schedule.body s.schedule.bodied };
+}
+
+impl RankedEntry for PublishedSchedule {
+    type Rank = u64;
+
+    ghost use Rattle.cif_calendar.specs.{Laws.Ranks.order_of_numbers, Ranks.IsNumberOf};
+
+    ghost stands_for = { IsNumberOf };
+
+    fn rank(&self) -> u64 {
+        self.schedule.rank()
+    }
+
+    ghost same_order = { order_of_numbers };
 }
 
 impl NamedEntry for PublishedSchedule {

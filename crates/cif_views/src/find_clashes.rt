@@ -6,7 +6,7 @@ ghost use Rattle.cif_canon.specs.{Accepted.IsClearExtract, Fault.IsFirstClashIn}
 ghost use Rattle.cif_views.specs.Steps.Clashes.{AreAdded};
 
 use crate::Clashes;
-use cif_calendar::{NamedEntry, Window, add_named, clashing_keys};
+use cif_calendar::{NamedEntry, RankedEntry, Window, add_named, clashing_keys};
 use cif_extract::{Clash, Extract, Fault};
 use std::alloc::{AllocError, Global};
 
@@ -29,7 +29,7 @@ pub fn clashes(alloc: Global, extract: &Extract) -> Result<Clashes, Fault>
 
 /// Appends the clashes of the entries in the window: for each key that has one its first, rising by
 /// key.
-fn add_clashes<E: NamedEntry>(
+fn add_clashes<E: NamedEntry + RankedEntry>(
     alloc: Global,
     known: Vec<Clash>,
     entries: &[E],

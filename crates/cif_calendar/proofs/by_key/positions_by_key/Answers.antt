@@ -11,7 +11,7 @@ pub returns : goal.returns
 returns g c =
     let es = keyed g.E.Entry.key g.E.Entry.terms c.args.entries.now in
     let cmp = g.E.Rank.Ord.cmp in
-    let stands = g.E.Entry.stands_for in
+    let stands = g.E.RankedEntry.stands_for in
     let pairs = c.sort_unstable_by.new.self.items in
     let long : length c.args.entries.now ≡ length es =
     sym (length-map c.args.entries.now (λ x. (g.E.Entry.key x, g.E.Entry.terms x))) in
@@ -23,7 +23,7 @@ returns g c =
     IfOk-weaker c.collect.result (λ w. w.items ≡ map (λ (p : g.row.E-Rank.Denot × ℕ). p.1) pairs)
     (λ positions. AreAllByKey g.E.Key.Ord.cmp es positions.items)
     (λ positions is. subst (AreAllByKey g.E.Key.Ord.cmp es) (sym is)
-    (by-ranks stands es cmp g.E.Key.Ord.cmp g.met.E.Rank.Ord.total g.met.E.Key.Ord.total g.met.E.Entry.same_order
+    (by-ranks stands es cmp g.E.Key.Ord.cmp g.met.E.Rank.Ord.total g.met.E.Key.Ord.total g.met.E.RankedEntry.same_order
     c.in_ok-ranked.ranked.items pairs ranked c.sort_unstable_by.ensures.permutation up))
     (items_from_collect {E = AllocError} c.collect.result c.collect.ensures.ran
     (YieldsList-from_map _ (λ (p : g.row.E-Rank.Denot × ℕ). p.1)

@@ -14,9 +14,9 @@ loop-rest-init g c =
       within = subst (λ (rest : List ℕ). All (λ i. i < length c.args.entries.now) rest) (sym c.as_slice-rest.ensures.value)
           (all-within g.E.Entry.key g.E.Entry.terms c.args.entries.now c.in_ok-positions.positions.items c.in_ok-positions.ensures.within);
       found = subst (λ (rest : List ℕ). AreFoundUpTo g.E.Key.Ord.cmp es are g.E.NamedEntry.clash_of
-          g.E.Entry.stands_for c.args.reported.now.items c.args.reported.now.items
+          g.E.RankedEntry.stands_for c.args.reported.now.items c.args.reported.now.items
           (get g.E.Rank.Ord.cmp c.new-dates.result) rest) (sym c.as_slice-rest.ensures.value)
-          (found-nothing g.E.Key.Ord.cmp es are g.E.NamedEntry.clash_of g.E.Entry.stands_for
+          (found-nothing g.E.Key.Ord.cmp es are g.E.NamedEntry.clash_of g.E.RankedEntry.stands_for
           c.args.reported.now.items
           (λ k none. counted-none c.args.holidays.now g.E.Entry.key g.E.Entry.terms g.E.PublishedEntry.published
           g.met.E.PublishedEntry.own_terms c.args.entries.now k none c.args.window.now.first (c.args.window.now.last + 1))
@@ -37,13 +37,13 @@ loop-rest-preserved g c =
     (All-take (λ i. i < length c.args.entries.now) _ _ c.loop-rest.invariant.within) in
     let of_key = key-reported c.args.holidays.now g.E.Entry.key g.E.Entry.terms g.E.PublishedEntry.published
     g.met.E.PublishedEntry.own_terms c.args.entries.now c.split_at.result.0.now g.E.Key.Ord.cmp g.E.NamedEntry.clash_of
-    g.E.Entry.stands_for _ _ _ _ _ _ c.index-entries-members.result _ some (within 0 0 some) c.index-entries-members.is
+    g.E.RankedEntry.stands_for _ _ _ _ _ _ c.index-entries-members.result _ some (within 0 0 some) c.index-entries-members.is
     c.in_ok-found.ensures c.in_ok-list_key.ensures in
     record {
       within = subst (λ (rest : List ℕ). All (λ i. i < length c.args.entries.now) rest) (sym c.split_at.ensures.back)
           (All-drop (λ i. i < length c.args.entries.now) c.count_of_first_key.result c.loop-rest.rest.now c.loop-rest.invariant.within);
       found = rw (c.split_at.ensures.back)
-          (found-more g.E.Key.Ord.cmp es are g.E.NamedEntry.clash_of g.E.Entry.stands_for c.args.reported.now.items
+          (found-more g.E.Key.Ord.cmp es are g.E.NamedEntry.clash_of g.E.RankedEntry.stands_for c.args.reported.now.items
           g.met.E.Key.Ord.total same c.loop-rest.reported.items _ _ _ c.loop-rest.rest.now c.loop-rest.invariant.found
           c.count_of_first_key.result c.count_of_first_key.ensures (rw c.split_at.ensures.front at of_key));
     }
@@ -53,10 +53,10 @@ returns g c =
     let es = keyed g.E.Entry.key g.E.Entry.terms c.args.entries.now in
     let are = AreClashDays c.args.holidays.now (published_by g.E.Entry.key g.E.PublishedEntry.published c.args.entries.now)
     c.args.window.now.first (c.args.window.now.last + 1) in
-    found-all g.E.Key.Ord.cmp es are g.E.NamedEntry.clash_of g.E.Entry.stands_for c.args.reported.now.items
+    found-all g.E.Key.Ord.cmp es are g.E.NamedEntry.clash_of g.E.RankedEntry.stands_for c.args.reported.now.items
     c.loop-rest.reported.items (get g.E.Rank.Ord.cmp c.loop-rest.dates)
     (subst (λ (rest : List ℕ). AreFoundUpTo g.E.Key.Ord.cmp es are g.E.NamedEntry.clash_of
-    g.E.Entry.stands_for c.args.reported.now.items c.loop-rest.reported.items (get g.E.Rank.Ord.cmp c.loop-rest.dates) rest)
+    g.E.RankedEntry.stands_for c.args.reported.now.items c.loop-rest.reported.items (get g.E.Rank.Ord.cmp c.loop-rest.dates) rest)
     (nil_from_length c.loop-rest.rest.now (eqb-true _ _ (sym c.loop-rest-test.ensures))) c.loop-rest.invariant.found)
 
 pub count_of_first_key-requires-clause-within : goal.count_of_first_key-requires-clause-within
