@@ -41,6 +41,12 @@ tested : (g : Over) (c : After-same_body-same g) →
     c.args.one c.args.other
 tested g c = one-body _ _ _ _ _ _ _ c.entry.ensures.stands c.entry-2.ensures.stands c.same_body-same.ensures
 
+pub returns-then-same-clause-exact : goal.returns-then-same-clause-exact
+returns-then-same-clause-exact g c = tested g (goal.at.returns-then-same-clause-exact g c).After-same_body-same
+
+pub returns-else-same-clause-exact : goal.returns-else-same-clause-exact
+returns-else-same-clause-exact g c = tested g (goal.at.returns-else-same-clause-exact g c).After-same_body-same
+
 pub returns-then-same-clause-alike : goal.returns-then-same-clause-alike
 returns-then-same-clause-alike g c = alike-noted c.args.members.now.terms c.args.members.now.positions
     c.loop.alike _ _ _

@@ -1,6 +1,6 @@
 -- Five parts are appended one behind another (`canon-appended`).
 use Rattle.cif_canon.proofs.{AppendedTexts.answered, AppendedTexts.appended, AppendedTexts.text-is, Names.CanonParts, Names.ap}
-use Rattle.cif_canon.proofs.{Names.extract_parts, WrittenCanon.canon-appended}
+use Rattle.cif_canon.proofs.{Names.extract_parts, Names.refl, WrittenCanon.canon-appended}
 use Rattle.cif_canon.proofs.canonical_form.Canon.write.Goals as goal
 
 pub returns-clause-writes : goal.returns-clause-writes
@@ -14,3 +14,10 @@ returns-clause-writes g c =
     (rw (c.as_slice-2.ensures.value, c.as_slice-3.ensures.value) at c.write_runs.ensures)
     (rw (c.as_slice-4.ensures.value, c.as_slice-5.ensures.value) at c.write_schedules.ensures)
     (appended _ _ _ _ _ c.write_trailer.result c.write_trailer.ensures)))
+
+pub write_runs-requires : goal.write_runs-requires
+write_runs-requires g c κs =
+    ((refl, tt), rw (c.as_slice-2.ensures.value, c.as_slice-3.ensures.value) c.self.invariant.0)
+
+pub write_schedules-requires : goal.write_schedules-requires
+write_schedules-requires g c = rw (c.as_slice-4.ensures.value, c.as_slice-5.ensures.value) c.self.invariant.1
