@@ -143,10 +143,7 @@ fn from_next(dates: &[Day], days: DaysRun, from: Day, last: Day) -> &[Day]
     ensures { IsFromNext days from last dates.now result.now }
 {
     for (count, day) in dates.iter().enumerate() {
-        if *day > last {
-            return &dates[count..];
-        }
-        if from <= *day && days.has(day.weekday()) {
+        if *day > last || (from <= *day && days.has(day.weekday())) {
             return &dates[count..];
         }
     }

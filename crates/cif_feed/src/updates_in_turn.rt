@@ -45,8 +45,8 @@ impl KeptUpdate {
         ensures { result ≡ looks_prepared self.now }
     {
         match &self.full {
-            Some(full) if !full.counts.have_marks() => have_marks(self.done.as_slice()),
-            _ => false,
+            Some(full) => !full.counts.have_marks() && have_marks(self.done.as_slice()),
+            None => false,
         }
     }
 }
