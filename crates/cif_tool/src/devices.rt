@@ -45,33 +45,29 @@ enum Device {
 }
 
 impl<'a> ExtractInput<'a> {
-    /// The file of this name, or the standard input where there is none or it is `-`. With help that may show one
-    /// of its lines, what is read last of the standard input is kept.
+    /// The file of this name, or the standard input where it is `-`. With help that may show one of its lines, what
+    /// is read last of the standard input is kept.
     // Inlined, it would keep copies of an input on the stack of its caller, and each is some kilobytes large.
     #[inline(never)]
     pub(crate) fn of(
         rt: HostRuntime,
         side: &'static str,
-        file: Option<&'a str>,
+        file: &'a str,
         verbosity: Verbosity,
     ) -> Self {
+        let is_standard = is_standard(file);
         ExtractInput {
             rt,
             side,
-            name: match file {
-                Some(name) if !is_standard(name) => name,
-                _ => "standard input",
-            },
+            name: if is_standard { "standard input" } else { file },
             // Made in place: it is some kilobytes large, and lives in the frame of `main`.
-            device: match file {
-                Some(name) if !is_standard(name) => Device::Closed,
-                _ => Device::Unlocked,
+            device: if is_standard {
+                Device::Unlocked
+            } else {
+                Device::Closed
             },
             start: ArrayVec::new(),
-            last: match file {
-                Some(name) if !is_standard(name) => None,
-                _ => verbosity.helps().then(|| LastRead::new(rt.alloc())),
-            },
+            last: (is_standard && verbosity.helps()).then(|| LastRead::new(rt.alloc())),
             failure: None,
         }
     }
@@ -322,7 +318,7 @@ pub(crate) fn standard_output<'a>(
 pub(crate) fn source_of<'a>(
     rt: HostRuntime,
     side: &'static str,
-    file: Option<&'a str>,
+    file: &'a str,
     verbosity: Verbosity,
 ) -> Source<ExtractInput<'a>> {
     Source::new(ExtractInput::of(rt, side, file, verbosity))
@@ -334,7 +330,7 @@ pub(crate) fn source_of<'a>(
 pub(crate) fn boxed_source<'a>(
     rt: HostRuntime,
     side: &'static str,
-    file: Option<&'a str>,
+    file: &'a str,
     verbosity: Verbosity,
 ) -> Result<Box<Source<ExtractInput<'a>>>, AllocError> {
     Ok(Box::new(rt.alloc(), source_of(rt, side, file, verbosity))?)

@@ -110,16 +110,14 @@ fn answer_job(
     request: &Request,
     errors: &mut Sink<Stderr>,
 ) -> Result<u8, Fault> {
-    // Of a job with one input `right` stands for no file, and is never touched.
-    let right_file = request.inputs.rest.first().map(String::as_str);
-    let (side, right_side) = match right_file {
-        Some(_) => ("LEFT", "RIGHT"),
-        None => ("", ""),
+    // Of a job with one input `right` is never touched.
+    let (side, right_side, right_file) = match request.inputs.rest.first() {
+        Some(file) => ("LEFT", "RIGHT", file.as_str()),
+        None => ("", "", "-"),
     };
     let alloc = rt.alloc();
     let verbosity = Verbosity::of(rt, request.verbose);
-    let left_file = Some(request.inputs.first.as_str());
-    let mut left = boxed_source(rt, side, left_file, verbosity)?;
+    let mut left = boxed_source(rt, side, request.inputs.first.as_str(), verbosity)?;
     let mut right = boxed_source(rt, right_side, right_file, verbosity)?;
     let mut written = OutputState::new();
     let mut output = standard_output(rt, &mut written)?;
@@ -154,7 +152,7 @@ fn prepare(
     let verbosity = Verbosity::of(rt, request.verbose);
     let mut holidays = source_of_holidays(rt, &request.inputs, verbosity);
     let file = request.inputs.rest.first().unwrap_or(&request.inputs.first);
-    let mut source = boxed_source(rt, "", Some(file.as_str()), verbosity)?;
+    let mut source = boxed_source(rt, "", file.as_str(), verbosity)?;
     let mut written = OutputState::new();
     let mut output = standard_output(rt, &mut written)?;
     let ended = run_prepare(alloc, job, &mut holidays, &mut *source, &mut output, errors);
@@ -180,8 +178,7 @@ fn source_of_holidays<'a>(
     verbosity: Verbosity,
 ) -> Option<Source<ExtractInput<'a>>> {
     inputs.rest.first()?;
-    let file = Some(inputs.first.as_str());
-    Some(source_of(rt, "holidays", file, verbosity))
+    Some(source_of(rt, "holidays", inputs.first.as_str(), verbosity))
 }
 
 /// Writes what the updates make of the full extract, the first input, and returns the status. Memory comes as in `answer_job`.
@@ -194,8 +191,7 @@ fn update(
 ) -> Result<u8, Fault> {
     let alloc = rt.alloc();
     let verbosity = Verbosity::of(rt, request.verbose);
-    let file = Some(request.inputs.first.as_str());
-    let mut full = boxed_source(rt, "FULL", file, verbosity)?;
+    let mut full = boxed_source(rt, "FULL", request.inputs.first.as_str(), verbosity)?;
     let mut updates = updates_of(rt, &request.inputs, verbosity)?;
     let mut written = OutputState::new();
     let mut output = standard_output(rt, &mut written)?;
@@ -230,7 +226,7 @@ fn updates_of<'a>(
 ) -> Result<Vec<Source<ExtractInput<'a>>>, AllocError> {
     let mut updates = Vec::new(rt.alloc());
     for name in &inputs.rest {
-        updates.push(source_of(rt, "UPDATE", Some(name.as_str()), verbosity))?;
+        updates.push(source_of(rt, "UPDATE", name.as_str(), verbosity))?;
     }
     Ok(updates)
 }
