@@ -78,14 +78,12 @@ pub(crate) struct Escaped<'a> {
 impl Display for Escaped<'_> {
     fn fmt<W: fmt::Write>(&self, f: &mut Formatter<W>) -> fmt::Result {
         for c in self.text.chars() {
-            let code = u32::from(c);
             match c {
                 '\n' if self.has_lines => f.write_str("\n"),
-                '\t' => f.write_str("\\t"),
-                '\n' => f.write_str("\\n"),
-                '\r' => f.write_str("\\r"),
-                '\u{2028}'..='\u{202E}' | '\u{2066}'..='\u{2069}' => write!(f, "\\u{{{code:x}}}"),
-                _ if c.is_control() => write!(f, "\\x{code:02x}"),
+                '\t' | '\n' | '\r' | '\u{2028}'..='\u{202E}' | '\u{2066}'..='\u{2069}' => {
+                    write!(f, "{}", c.escape_default())
+                }
+                _ if c.is_control() => write!(f, "\\x{:02x}", u32::from(c)),
                 _ => write!(f, "{c}"),
             }?;
         }

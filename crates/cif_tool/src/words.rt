@@ -4,7 +4,7 @@ ghost use Rattle.std.specs.Prelude.{MatchOption, String, codes, false, map, opti
 ghost use Rattle.clap.specs.Words.{all_of, first_of, found_of, kind_of, rows_of, subcommand_rows_of};
 ghost use Rattle.cif_columns.specs.Day.{StandsInYymmdd};
 ghost use Rattle.cif_tool.specs.CommandLine.{feed_subcommands};
-ghost use Rattle.cif_tool.specs.Job.{AreCanonicalWords, AreComparedWords, Asks, IsAskedBy, IsChosen, IsDateOf, IsRequestChosen};
+ghost use Rattle.cif_tool.specs.Job.{Asks, IsAskedBy, IsChosen, IsDateOf, IsRequestChosen};
 ghost use Rattle.cif_tool.specs.Job.{IsTaskChosen, IsUidWord, file_of, form_of, format_of, has_flag, inputs_of, is_standard, listing_of};
 ghost use Rattle.cif_tool.specs.Job.{names_of, required_word, standard_inputs, table_of};
 ghost use Rattle.cif_tool.specs.JobFault.{HasBadDate, HasBadWindow, IsAskedFor, IsEnteredFault};
@@ -149,14 +149,6 @@ fn named_job(name: &str, matches: &ArgMatches<'_>) -> Result<Job, JobFault>
     ensures { IsAskedFor IsChosen (name.now, rows_of (found_of matches.now)) result }
 {
     match name {
-        "normalise" => Ok(Job::Normalise(canonical_job(matches)?)),
-        "check" if has_flag(matches, "all") => Ok(Job::CheckAll(canonical_job(matches)?)),
-        "check" => Ok(Job::Check(canonical_job(matches)?)),
-        "compare" => Ok(Job::Compare(compare_job(matches)?)),
-        "diff" => Ok(Job::Diff(DiffJob {
-            compared: compare_job(matches)?,
-            format: format_of(matches),
-        })),
         "day" => Ok(Job::Day(DayJob {
             day: day_of(matches)?,
             listing: listing_of(matches),
@@ -172,41 +164,54 @@ fn named_job(name: &str, matches: &ArgMatches<'_>) -> Result<Job, JobFault>
             day: day_of(matches)?,
             format: format_of(matches),
         })),
-        "clashes" => Ok(Job::Clashes(asked_of(matches)?)),
-        "table" => Ok(Job::Table(TableJob {
-            table: table_of(required_word(matches, "TABLE")),
-            canonical: canonical_job(matches)?,
-        })),
         "calendar" => Ok(Job::Calendar(CalendarJob {
             uid: uid_of(matches)?,
             asked: asked_of(matches)?,
         })),
-        _ => Err(JobFault::NoCommand),
+        _ => {
+            let asked = asked_of(matches)?;
+            match name {
+                "normalise" => Ok(Job::Normalise(canonical_job(asked, matches))),
+                "check" if has_flag(matches, "all") => {
+                    Ok(Job::CheckAll(canonical_job(asked, matches)))
+                }
+                "check" => Ok(Job::Check(canonical_job(asked, matches))),
+                "compare" => Ok(Job::Compare(compare_job(asked, matches))),
+                "diff" => Ok(Job::Diff(DiffJob {
+                    compared: compare_job(asked, matches),
+                    format: format_of(matches),
+                })),
+                "clashes" => Ok(Job::Clashes(asked)),
+                "table" => Ok(Job::Table(TableJob {
+                    table: table_of(required_word(matches, "TABLE")),
+                    canonical: canonical_job(asked, matches),
+                })),
+                _ => Err(JobFault::NoCommand),
+            }
+        }
     }
 }
 
-/// The window and the form that the words ask for.
-fn canonical_job(matches: &ArgMatches<'_>) -> Result<CanonicalJob, JobFault>
-    ensures ok { IfOk result (λ job. AreCanonicalWords (rows_of (found_of matches.now)) job.asked job.form) }
-    ensures err { IfErr result (λ fault. (fault ≡ JobFault.BadDate)
-        × HasBadWindow (rows_of (found_of matches.now))) }
+/// The window that is asked for, with the form that the words name.
+fn canonical_job(asked: Asked, matches: &ArgMatches<'_>) -> CanonicalJob
+    ensures { (result.asked ≡ asked)
+        × (result.form ≡ form_of (first_of (codes "form") (rows_of (found_of matches.now)))) }
 {
-    Ok(CanonicalJob {
-        asked: asked_of(matches)?,
+    CanonicalJob {
+        asked,
         form: form_of(matches),
-    })
+    }
 }
 
-/// The window that the words ask for, of both extracts.
-fn compare_job(matches: &ArgMatches<'_>) -> Result<CompareJob, JobFault>
-    ensures ok { IfOk result (λ job. AreComparedWords (rows_of (found_of matches.now)) job.asked job.common) }
-    ensures err { IfErr result (λ fault. (fault ≡ JobFault.BadDate)
-        × HasBadWindow (rows_of (found_of matches.now))) }
+/// The window that is asked for, of both extracts if the words say so.
+fn compare_job(asked: Asked, matches: &ArgMatches<'_>) -> CompareJob
+    ensures { (result.asked ≡ asked)
+        × (result.common ≡ has_flag (codes "common") (rows_of (found_of matches.now))) }
 {
-    Ok(CompareJob {
-        asked: asked_of(matches)?,
+    CompareJob {
+        asked,
         common: has_flag(matches, "common"),
-    })
+    }
 }
 
 // ---- the inputs
@@ -240,7 +245,7 @@ fn copied(alloc: Global, first: &str, rest: &[&str]) -> Result<InputNames, Alloc
         ≡ first.now ∷ map (λ word. word.now) rest.now) }
 {
     let first = String::from_str(alloc, first)?;
-    let mut names = Vec::with_capacity(alloc, rest.len())?;
+    let mut names = Vec::new(alloc);
     for name in rest {
         names.push(String::from_str(alloc, name)?)?;
     }
