@@ -10,8 +10,9 @@ use Rattle.cif_records.specs.declared.record.Kind.TheVariants.{Zz}
 use Rattle.cif_records.specs.declared.record.Record.TheVariants as of
 use Rattle.cif_feed.proofs.{FeedLines.fine, FeedLines.kind_there, FeedSteps.read_back, FeedSteps.read_transaction}
 use Rattle.cif_feed.specs.{FeedLine.column, Marks.record_mark, Transaction.transaction_in}
-use Rattle.cif_feed.specs.Steps.Marks.{is_schedule_mark, is_trailer_mark, mark_of, own_mark, with_mark}
-use Rattle.cif_feed.specs.declared.{feed_line.Feed.TheVariants.Update, mark.UpdateCounts.UpdateCounts}
+use Rattle.cif_feed.specs.Steps.Marks.{is_schedule_mark, is_trailer_mark, mark_of, own_mark, with_mark, with_record}
+use Rattle.cif_feed.specs.declared.{feed_line.Feed.TheVariants.Update, mark.RecordMark.RecordMark, mark.TiplocMark.TiplocMark}
+use Rattle.cif_feed.specs.declared.mark.UpdateCounts.{UpdateCounts}
 use Rattle.cif_feed.specs.declared.holidays.HolidayCode.TheVariants.{X, E, G}
 use Rattle.cif_feed.specs.declared.mark.LineMark.TheVariants as mark
 use Rattle.cif_feed.specs.declared.mark.Transaction.TheVariants.{Deleted, New, Revised}
@@ -41,51 +42,42 @@ module _ (allowed : HolidayCodes) (number : ℕ) (c : List ℕ) (m : MarkParts) 
     holiday_codes = plus_if m.counts.holiday_codes (code && not (is_deleted t));
   }
 
-  abbrev with_association : Option Transaction → Bool → MarkParts
-  with_association t open_end = record m {
-    tiplocs = m.tiplocs ++ [];
-    associations = m.associations ++ record_mark t open_end None line ∷ [];
-    schedules = m.schedules ++ [];
-    counts = counted t open_end false;
-  }
+  counted_by : (t : Transaction) (open_end : Bool) (code : Option HolidayCode) (some : Bool)
+      → ((t ≡ Deleted → ⊥) → is_some code ≡ some)
+      → with_record m.counts (record_mark (Some t) open_end code line) ≡ counted (Some t) open_end some
+  counted_by New open_end code some is = rw (and-true open_end, and-true some, is (λ e. cc)) refl
+  counted_by Revised open_end code some is = rw (and-true open_end, and-true some, is (λ e. cc)) refl
+  counted_by Deleted open_end code some is = rw (and-false open_end, and-false some) refl
 
-  association_by : (t : Transaction) (open_end : Bool)
-      → with_mark m (mark.Association (record_mark (Some t) open_end None line)) ≡ with_association (Some t) open_end
-  association_by New open_end = rw (append-nil m.tiplocs, append-nil m.schedules, and-true open_end) refl
-  association_by Revised open_end = rw (append-nil m.tiplocs, append-nil m.schedules, and-true open_end) refl
-  association_by Deleted open_end = rw (append-nil m.tiplocs, append-nil m.schedules, and-false open_end) refl
+  with_lists : List TiplocMark → List RecordMark → List RecordMark → UpdateCounts → MarkParts
+  with_lists ts rs ss all = record m { tiplocs = ts; associations = rs; schedules = ss; counts = all }
+
+  same_lists : (ts us : List TiplocMark) (ps qs rs ss : List RecordMark) (all others : UpdateCounts) → ts ≡ us → ps ≡ qs → rs ≡ ss
+      → all ≡ others → with_lists ts ps rs all ≡ with_lists us qs ss others
+  same_lists ts us ps qs rs ss all others t p r o = rw (t, p, r, o) refl
 
   association : (t : Transaction) → transaction_in (column 3 c) ≡ Some t → IsMarked (Some Aa)
+  unfolding with_lists
   association t is =
-      subst (λ o. with_mark m (mark.Association (record_mark o (is_open 22 c) None line)) ≡ with_association o (is_open 22 c)) (sym is)
-      (association_by t (is_open 22 c))
-
-  abbrev with_schedule : Option Transaction → Bool → Option HolidayCode → Bool → MarkParts
-  with_schedule t open_end code some = record m {
-    tiplocs = m.tiplocs ++ [];
-    associations = m.associations ++ [];
-    schedules = m.schedules ++ record_mark t open_end code line ∷ [];
-    counts = counted t open_end some;
-  }
-
-  schedule_by : (t : Transaction) (open_end : Bool) (code : Option HolidayCode) (some : Bool)
-      → ((t ≡ Deleted → ⊥) → is_some code ≡ some)
-      → with_mark m (mark.Schedule (record_mark (Some t) open_end code line)) ≡ with_schedule (Some t) open_end code some
-  schedule_by New open_end code some is =
-      rw (append-nil m.tiplocs, append-nil m.associations, and-true open_end, and-true some, is (λ e. cc)) refl
-  schedule_by Revised open_end code some is =
-      rw (append-nil m.tiplocs, append-nil m.associations, and-true open_end, and-true some, is (λ e. cc)) refl
-  schedule_by Deleted open_end code some is =
-      rw (append-nil m.tiplocs, append-nil m.associations, and-false open_end, and-false some) refl
+      let open_end = is_open 22 c in
+      subst (λ o. with_mark m (mark.Association (record_mark o open_end None line))
+      ≡ with_lists (m.tiplocs ++ []) (m.associations ++ record_mark o open_end None line ∷ []) (m.schedules ++ [])
+      (counted o open_end false)) (sym is)
+      (same_lists _ _ _ _ _ _ _ _ (sym (append-nil m.tiplocs)) refl (sym (append-nil m.schedules))
+      (counted_by t open_end None false (λ put. refl)))
 
   schedule : (t : Transaction) → transaction_in (column 3 c) ≡ Some t
       → ((t ≡ Deleted → ⊥) → StandsIn (columns 29 29 c) (code_value (code_of allowed c))) → IsMarked (Some Bs)
+  unfolding with_lists
   schedule t is stands =
       let open_end = is_open 16 c in
       let code = code_of allowed c in
       let some = not (column 29 c == 32) in
-      subst (λ o. with_mark m (mark.Schedule (record_mark o open_end code line)) ≡ with_schedule o open_end code some) (sym is)
-      (schedule_by t open_end code some (λ put. coded code (columns 29 29 c) (stands put)))
+      subst (λ o. with_mark m (mark.Schedule (record_mark o open_end code line))
+      ≡ with_lists (m.tiplocs ++ []) (m.associations ++ []) (m.schedules ++ record_mark o open_end code line ∷ [])
+      (counted o open_end some)) (sym is)
+      (same_lists _ _ _ _ _ _ _ _ (sym (append-nil m.tiplocs)) (sym (append-nil m.associations)) refl
+      (counted_by t open_end code some (λ put. coded code (columns 29 29 c) (stands put))))
 
   -- ---- a line of another kind
 
