@@ -98,8 +98,7 @@ module _ {W : Type 0} (contents : W → Option (List ℕ)) (errors : W → Optio
         Answers contents errors P old new result
     flushed mid new (Ok s) h w ok err p = record {
       text = text;
-      writes = subst (λ t. HasWritten contents errors t old new) (append-nil text)
-          (written_both contents errors text [] old mid new h w);
+      writes = subst (λ t. HasWritten contents errors t old new) (append-nil text) (written_both contents errors text [] old mid new h w);
       answer = subst (P text) (sym ok) p;
     }
     flushed mid new (Err f) h w ok err p =
@@ -185,8 +184,7 @@ module _ {A : Type 0} (one : ReadCall A Fault) (IsFault : List ℕ → Unread �
       (one.MayFail f → IsOfNormalise MAX_LINES f) → one.is_read f ≡ is_read f →
       IsResultOf remaining errors one old new (Err f) → (result : Result ℕ Fault) →
       IsErrAnd result (λ e. e ≡ f) → Comes result
-  unread f so may same =
-      hands-on one (answering IsFault) remaining errors old new f (record { fault = so; answers = may; same = same })
+  unread f so may same = hands-on one (answering IsFault) remaining errors old new f (record { fault = so; answers = may; same = same })
 
   module _ {W : Type 0} (contents : W → Option (List ℕ)) (write_errors : W → Option ℕ) (holds_nothing : W → Type 0)
       (IsAnswer : List ℕ → List ℕ → ℕ → Type 0) (sink : Sink W) where

@@ -3,7 +3,7 @@ use Rattle.cif_views.proofs.Names.{At, BodyLines, Bor, Call, Field, Format, List
 use Rattle.cif_views.proofs.Names.{append_assoc, ap₂, arith, at_drop_all, call_names_if, call_text, calls_text, codes, drop, fields_text}
 use Rattle.cif_views.proofs.Names.{flat_map, flat_map-append, flat_map-map, heading_text, if_table, if◌then◌else◌, joined-rows}
 use Rattle.cif_views.proofs.Names.{journey_names, length, line_of, lines_of_row, map, names_line, parts_in, refl, row_and_calls, row_lines}
-use Rattle.cif_views.proofs.Names.{row_start, shown, subst, sym, texts, with_calls, with_first, ℕ, ◌++◌, ◌+◌, ◌<◌, ◌∙◌, ◌∷◌, ◌≡◌, ◌≤◌}
+use Rattle.cif_views.proofs.Names.{row_start, shown, subst, sym, texts, with_calls, with_first, ℕ, ◌++◌, ◌<◌, ◌∙◌, ◌∷◌, ◌≡◌, ◌≤◌}
 use Rattle.std.specs.List.{join_with_byte}
 use Rattle.cif_canon.proofs.ViewLines.{IsGrowing}
 use Rattle.cif_views.specs.declared.listing.Listing.{Listing}
@@ -44,8 +44,7 @@ module _ (one other : List Field → List ℕ) (same : (f : Field) (fs : List Fi
   same-between (call ∷ calls) = ap₂ (λ (a b : List ℕ). a ++ b) (same-call call) (same-between calls)
 
   same-calls : (b : BodyLines) → calls_text one b ≡ calls_text other b
-  same-calls b =
-      ap₂ (λ (a b : List ℕ). a ++ b) (same _ _) (ap₂ (λ (a b : List ℕ). a ++ b) (same-between (parts_in b).calls) (same _ _))
+  same-calls b = ap₂ (λ (a b : List ℕ). a ++ b) (same _ _) (ap₂ (λ (a b : List ℕ). a ++ b) (same-between (parts_in b).calls) (same _ _))
 
 row-calls : (format : Format) (first : Field) (row : List Field) (b : BodyLines) →
     row_and_calls format (fields_text format (first ∷ row)) b ≡ with_calls format (first ∷ row) b

@@ -103,10 +103,7 @@ module _ (x : ExtractParts) where
 
   named-first : (ks : List (AssocKey × ℕ)) (ts : List (List ℕ × ℕ)) → AreOfAssociations ks → AreOfTrains ts → (clash : Clash) →
       (slice_get (both-named ks ts) 0 ≡ Some clash) ↔ IsFirstClashIn x clash
-  named-first [] [] a t clash = (
-    λ e. absurd (cc),
-    λ p. absurd (clear-first ((named-clear [] [] a t).0 refl) clash p),
-  )
+  named-first [] [] a t clash = (λ e. absurd (cc), λ p. absurd (clear-first ((named-clear [] [] a t).0 refl) clash p))
   named-first [] (z ∷ zs) a t clash = (
     λ e. subst (IsFirstClashIn x) (same_Some (train_clash z) clash e) (
       none-found key_cmp (association_entries x.associations) x.header.first x.header.last a,

@@ -145,8 +145,7 @@ is_field kind from to (c ∷ own) = is_run kind from to (c ∷ own) || is_field 
 
 -- they are among the first of the line, or those of a field
 abbrev pub is_among : ℕ → JourneyKind → List Column → ℕ → ℕ → Bool
-is_among front kind own from to =
-    (nat_le 1 from && (nat_le from to && nat_le to 80)) && (nat_le to front || is_field kind from to own)
+is_among front kind own from to = (nat_le 1 from && (nat_le from to && nat_le to 80)) && (nat_le to front || is_field kind from to own)
 
 abbrev pub is_there : JourneyKind → List Column → ℕ → ℕ → Bool
 is_there kind own from to = is_among 0 kind own from to
@@ -248,7 +247,4 @@ module _ (l m : List ℕ) where
 
   pub all-moved : (rows : List Row) → AllSame rows → AllStandIn m rows → AllStandIn l rows
   all-moved [] same h = tt
-  all-moved (r ∷ rows) same h = (
-    moved r.value (columns r.from r.to l) (columns r.from r.to m) same.0 h.0,
-    all-moved rows same.1 h.1,
-  )
+  all-moved (r ∷ rows) same h = (moved r.value (columns r.from r.to l) (columns r.from r.to m) same.0 h.0, all-moved rows same.1 h.1)

@@ -115,8 +115,7 @@ module _ {K B : Type 0} (cmp : K → K → Ordering) (IsOf : K → List ℕ → 
             subst (λ j. IsClear (of_key entries j) d) h.key clear,
           )
         where
-          clear_of : (m : Mark) → m ≡ mark.Wins → IsMarked (of_key entries h.one.key) d h.one.terms m
-              → IsClear (of_key entries h.one.key) d
+          clear_of : (m : Mark) → m ≡ mark.Wins → IsMarked (of_key entries h.one.key) d h.one.terms m → IsClear (of_key entries h.one.key) d
           clear_of mark.Wins is marked = marked.1
           clear_of mark.Clash is marked = absurd (cc)
           clear_of mark.Hidden is marked = absurd (cc)

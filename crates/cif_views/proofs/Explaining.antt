@@ -90,8 +90,7 @@ module _ {K B : Type 0} (cmp : K → K → Ordering) (total : IsTotalOrder cmp) 
   less-by : (p q : Placed K B) (o : Ordering) → placed_cmp cmp p q ≡ o → is_lt (ordering_reverse o) ≡ false → (p.place ≡ q.place → ⊥)
       → placed_cmp cmp p q ≡ Less
   less-by p q Less is right differ = is
-  less-by p q Equal is right differ =
-      absurd (differ (equal-places p.place q.place (then_equal (cmp p.key q.key) _ _ is)))
+  less-by p q Equal is right differ = absurd (differ (equal-places p.place q.place (then_equal (cmp p.key q.key) _ _ is)))
   less-by p q Greater is right differ = absurd (cc)
 
 -- records that are sorted are all of them in order
@@ -267,8 +266,7 @@ module _ {K B : Type 0} (cmp : K → K → Ordering) (total : IsTotalOrder cmp) 
 module _ {K B : Type 0} (cmp : K → K → Ordering) (IsOf : K → List ℕ → Type 0) (entries : List (K × Terms B)) (u : List ℕ) (d : ℕ)
     (placed : List (Placed K B)) (are : ArePlacedInOrder cmp IsOf entries u d placed) where
   -- a record of a key of the train that applies is among them
-  among : (k : K) (r : Terms B) → IsOf k u → of_key entries k r → Applies r d
-      → (i : ℕ) × Contains placed (placed_at i k r)
+  among : (k : K) (r : Terms B) → IsOf k u → of_key entries k r → Applies r d → (i : ℕ) × Contains placed (placed_at i k r)
   among k r train listed applies =
       let place = at-contains entries (k, r) listed in
       (place.0, are.all (placed_at place.0 k r) (record { at = place.1; train = train; applies = applies }))

@@ -1,9 +1,20 @@
 -- Rows that wait to be written together.
 use Rattle.cif_views.proofs.Names.{Field, List, Option, Tsv, [], ap, append-nil, append_assoc, arith, codes, drop, length, length-append}
-use Rattle.cif_views.proofs.Names.{refl, row_behind, subst, sym, take, take-append_seam, ℕ, ◌++◌, ◌+◌, ◌<◌, ◌∙◌, ◌∷◌, ◌≡◌}
+use Rattle.cif_views.proofs.Names.{refl, row_behind, subst, sym, take, take-append_seam, ℕ, ◌++◌, ◌+◌, ◌<◌, ◌∙◌, ◌∷◌, ◌≡◌, ◌≤◌}
 use Rattle.cif_columns.specs.declared.sink.Sink.{Sink}
 use Rattle.cif_canon.{proofs.AppendedTexts.both, proofs.AppendedTexts.text-is, specs.Appended.IsAppended, specs.Fields.after}
-use Rattle.cif_views.specs.Steps.GatheredRows.{IsBegun, IsGathered, waiting}
+use Rattle.cif_views.specs.Steps.GatheredRows.{AreRows, IsBegun, IsGathered, waiting}
+
+-- with fields behind it a row is no shorter
+pub rows-more : (begun : ℕ) (old mid new : List ℕ) (fields : List Field) → AreRows begun old → begun ≤ length mid →
+    length mid + 261 ≤ 768 → new ≡ mid ++ after Tsv fields → length new ≤ length mid + 260 → AreRows begun new
+rows-more begun old mid new fields rows within room is bound =
+    let long = ap length is ∙ length-append mid (after Tsv fields) in record {
+      some = rows.some;
+      few = rows.few;
+      begun_in = omega (arith, within, long);
+      room = omega (arith, room, bound);
+    }
 
 -- a row behind one that waits, with a line feed between them
 two-rows : (out head more next text : List ℕ) → out ++ ((head ++ more) ++ codes "\n") ≡ text →
@@ -56,6 +67,18 @@ module _ {W : Type 0} (contents : W → Option (List ℕ)) (errors : W → Optio
   }
 
   module _ (t : Sink W) (row : List ℕ) where
+    -- no more than what rows begin with, so the text is out
+    none-of : (out more : List ℕ) → IsAppended contents errors out s t → row ≡ begun ++ more → out ++ waiting begun more ≡ text →
+        length row ≡ length begun → IsAppended contents errors text s t × (row ≡ begun)
+    none-of out [] written row_is text_is short =
+        (text-is contents errors _ _ s t (sym (append-nil out) ∙ text_is) written, row_is ∙ append-nil begun)
+    none-of out (b ∷ more) written row_is text_is short =
+        absurd (let long = ap length row_is ∙ length-append begun (b ∷ more) in omega (arith, long, short))
+
+    pub none-waits : IsGathered contents errors begun text s t row → length row ≡ length begun →
+        IsAppended contents errors text s t × (row ≡ begun)
+    none-waits h = none-of h.out h.more h.written h.row_is h.text_is
+
     -- the rows that wait are written
     some-of : (u : Sink W) (out more : List ℕ) → IsAppended contents errors out s t → row ≡ begun ++ more →
         out ++ waiting begun more ≡ text → length begun < length row → IsAppended contents errors (drop 1 row ++ codes "\n") t u →

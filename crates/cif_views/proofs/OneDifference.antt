@@ -11,17 +11,10 @@ use Rattle.cif_weeks.proofs.UniqueByKey.{unique_same}
 module _ (start : List Field) (left right name : List ℕ) (field : List ℕ → Field) where
   by-test : (test : Bool) → pointwise nat_eq (shown Tsv (field left)) (shown Tsv (field right)) ≡ test →
       IsRowOfField start left right name field (if test then [] else differing_row start name (field left) (field right))
-  by-test true is = record {
-    differs = λ differ. absurd (differ ((bytes_decides _ _).0 is));
-    same = λ same. refl;
-  }
-  by-test false is = record {
-    differs = λ differ. refl;
-    same = λ same. absurd (false≢true (sym is ∙ (bytes_decides _ _).1 same));
-  }
+  by-test true is = record { differs = λ differ. absurd (differ ((bytes_decides _ _).0 is)); same = λ same. refl }
+  by-test false is = record { differs = λ differ. refl; same = λ same. absurd (false≢true (sym is ∙ (bytes_decides _ _).1 same)) }
 
-pub rows-of-fields : (start : List Field) (fields : TableFields (List ℕ)) (left right : List ℕ) →
-    AreRowsOfFields start fields left right
+pub rows-of-fields : (start : List Field) (fields : TableFields (List ℕ)) (left right : List ℕ) → AreRowsOfFields start fields left right
 rows-of-fields start fields left right = record {
   rows = λ f. if pointwise nat_eq (shown Tsv (f.1 left)) (shown Tsv (f.1 right)) then []
       else differing_row start f.0 (f.1 left) (f.1 right);

@@ -122,10 +122,7 @@ pub are-further : (extra : Option Extra) (o : Origin) (rs : List Record) →
 are-further None o rs fits =
     let line = plain_line (record_table (of.Origin o)) in
     let no = is-origin line (records.kind_there line (of.Origin o) (records.spells (of.Origin o) fits.0)) in
-    record {
-      extra_is = ap (λ b. cond b line (replicate 80 32)) no;
-      journey_is = ap (λ b. cond b (lines_of rs) (line ∷ lines_of rs)) no;
-    }
+    record { extra_is = ap (λ b. cond b line (replicate 80 32)) no; journey_is = ap (λ b. cond b (lines_of rs) (line ∷ lines_of rs)) no }
 are-further (Some e) o rs fits =
     let line = plain_line (record_table (of.Extra e)) in
     let yes = is-extra line (records.kind_there line (of.Extra e) (records.spells (of.Extra e) fits.0)) in
@@ -230,8 +227,7 @@ same-lines a b one other detail further =
     by-first a (first_line a one).0 ∙ (λ i. first i ∷ further i) ∙ sym (by-first b (first_line b other).0)
   where
     first : get_or a 0 [] ≡ get_or b 0 []
-    first =
-        (first_line a one).1 ∙ ap (λ (d : Detail). plain_line (detail_table d)) detail ∙ sym (first_line b other).1
+    first = (first_line a one).1 ∙ ap (λ (d : Detail). plain_line (detail_table d)) detail ∙ sym (first_line b other).1
 
     by-first : (lines : BodyLines) → 2 < length lines → lines ≡ get_or lines 0 [] ∷ drop 1 lines
     by-first [] some = absurd (omega (arith, some))

@@ -20,8 +20,7 @@ shown-change Right change is = ap (λ (l : List ℕ). (Trimmed, l)) is
 
 -- ---- the lines of two journeys, numbered
 
-places-of : (schedule call : ℕ) (lines : List (List ℕ)) →
-    map place_columns (numbered_from schedule call lines) ≡ map (columns 1 10) lines
+places-of : (schedule call : ℕ) (lines : List (List ℕ)) → map place_columns (numbered_from schedule call lines) ≡ map (columns 1 10) lines
 places-of schedule call [] = refl
 places-of schedule call (line ∷ lines) =
     ap (λ (ls : List (List ℕ)). columns 1 10 line ∷ ls) (places-of schedule (cond (is_call (kind_of_line line)) (call + 1) call) lines)

@@ -341,8 +341,4 @@ says j (c ∷ lines) =
 pub public-calls-are : (s : ℕ × ScheduleLines) → ArePublicCalls s (public_calls s)
 public-calls-are s =
     let said = says at_first (numbered_from s.0 1 s.1.further) in
-    record {
-      timed = said.timed;
-      are_timed = record { calls_are = said.calls; moments = said.moments };
-      are_shown = said.are_shown;
-    }
+    record { timed = said.timed; are_timed = record { calls_are = said.calls; moments = said.moments }; are_shown = said.are_shown }

@@ -1,10 +1,19 @@
 -- The rows of public calls, as they are written line by line.
-use Rattle.cif_views.proofs.Names.{Journey, JourneyKind, List, None, Numbered, Option, Shown, Some, Tsv, [], ap, append-nil, append_assoc}
-use Rattle.cif_views.proofs.Names.{arith, behind_schedule, cond, flat_map, flat_map-append, is_call, kind_of_line, length, number}
-use Rattle.cif_views.proofs.Names.{numbered_from, public_call, public_fields, public_from, refl, row_line, row_of_step, step_at, sym, ℕ}
-use Rattle.cif_views.proofs.Names.{◌++◌, ◌+◌, ◌-◌, ◌∙◌, ◌∷◌, ◌≡◌}
+use Rattle.cif_views.proofs.Names.{CallTimes, Journey, JourneyKind, List, None, Numbered, Option, Shown, Some, Tsv, [], ap, append-nil}
+use Rattle.cif_views.proofs.Names.{append_assoc, arith, behind_schedule, cond, flat_map, flat_map-append, is_call, kind_of_line, length}
+use Rattle.cif_views.proofs.Names.{number, numbered_from, public_call, public_fields, public_from, refl, row_line, row_of_step, step_at}
+use Rattle.cif_views.proofs.Names.{sym, ℕ, ◌++◌, ◌+◌, ◌∙◌, ◌∷◌, ◌≡◌}
 use Rattle.cif_canon.specs.Fields.{after}
-use Rattle.cif_views.proofs.TableRows.{behind-row}
+use Rattle.cif_views.{proofs.TableRows.behind-row, specs.PublicCalls.riders_in, specs.PublicCalls.times_in, specs.Steps.PublicCalls.step}
+
+-- a step by what is read of the line is that of the line
+pub step-is : (j next : Journey) (shown : Option Shown) (kind : JourneyKind) (line : List ℕ) (times : CallTimes) →
+    kind ≡ kind_of_line line → times ≡ times_in kind line → (next, shown) ≡ step j times (riders_in kind line) →
+    (next, shown) ≡ step_at j line
+step-is j next shown kind line times is_kind are_times is =
+    is
+    ∙ ap (λ (t : CallTimes). step j t (riders_in kind line)) are_times
+    ∙ ap (λ (k : JourneyKind). step j (times_in k line) (riders_in k line)) is_kind
 
 pub same-row : (row : List ℕ) (call : ℕ) (j next : Journey) (line : List ℕ) (shown : Option Shown) →
     (next, shown) ≡ step_at j line → row_of_step row call line shown ≡ row_of_step row call line (step_at j line).1

@@ -14,8 +14,7 @@ use Rattle.cif_views.specs.declared.columns.FieldPlace.TheVariants as place
 
 -- ---- a text, cut at bytes that no cell has
 
-cut : (byte : ℕ) → byte < 32 → (a b s t : List ℕ) → ArePrintable a → ArePrintable b → a ++ (byte ∷ s) ≡ b ++ (byte ∷ t) →
-    (a ≡ b) × (s ≡ t)
+cut : (byte : ℕ) → byte < 32 → (a b s t : List ℕ) → ArePrintable a → ArePrintable b → a ++ (byte ∷ s) ≡ b ++ (byte ∷ t) → (a ≡ b) × (s ≡ t)
 cut byte low [] [] s t one other same = (refl, ap (drop 1) same)
 cut byte low [] (y ∷ b) s t one other same =
     let first = (All-head IsPrintable y b other).0 in
@@ -218,8 +217,7 @@ module _ {X : Type 0} (table : X → List Row) (own : List Column) (whole : (x :
   is-line line p = subst IsLine (sym p.is) (line-plain_line (table p.it) (whole p.it) p.fits)
 
   all-plain : (line : List ℕ) (p : IsPlain table line) → AllPlain line (table p.it)
-  all-plain line p =
-      subst (λ l. AllPlain l (table p.it)) (sym p.is) (plain-behind [] (table p.it) (whole p.it) p.fits)
+  all-plain line p = subst (λ l. AllPlain l (table p.it)) (sym p.is) (plain-behind [] (table p.it) (whole p.it) p.fits)
 
   pub one-line : (l m : List ℕ) → IsPlain table l → IsPlain table m → cells_in own l ≡ cells_in own m → l ≡ m
   one-line l m p q same =

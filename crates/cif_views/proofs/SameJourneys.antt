@@ -118,8 +118,7 @@ change-identity line _ place h is = absurd place
 module _ (l m : List ℕ) (j : IsOfJourney l) (i : IsOfJourney m) where
   same-identity : (calls : Bool) → has_row calls (sort_of j.it) ≡ true → has_row calls (sort_of i.it) ≡ true →
       cells_at calls (kind_of_line l) l ≡ cells_at calls (kind_of_line m) m → columns 1 2 l ≡ columns 1 2 m
-  same-identity true one other same =
-      covered l m 0 Other refl (line-of l j) (line-of m i) 1 2 (take 1 call_columns) refl (ap (take 1) same)
+  same-identity true one other same = covered l m 0 Other refl (line-of l j) (line-of m i) 1 2 (take 1 call_columns) refl (ap (take 1) same)
   same-identity false one other same =
       change-identity l j.it j.place (spelled l j) one ∙ sym (change-identity m i.it i.place (spelled m i) other)
 

@@ -73,8 +73,7 @@ module _ (calls : Bool) where
       ∙ ap (λ b. cond b (first ∷ rest Other) (rest Other)) (no-other calls)
 
   pub listed-of : (n : ℕ) (s : ScheduleLines) (p : IsSchedule s) → listed n s.further ≡ listed n (journey_of p.it)
-  listed-of n s p =
-      ap (listed n) (further-of s p) ∙ listed-behind n (extra_of p.it) (journey_of p.it) (extra-fits p.it p.fits)
+  listed-of n s p = ap (listed n) (further-of s p) ∙ listed-behind n (extra_of p.it) (journey_of p.it) (extra-fits p.it p.fits)
 
   of-schedule : (first last n : ℕ) (s : ScheduleLines) → first ≤ n → n ≤ last → IsSchedule s →
       All (IsRow calls first last) (listed n s.further)

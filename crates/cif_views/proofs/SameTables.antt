@@ -98,16 +98,10 @@ module _ (x y : ExtractLines) (one : ArePlain x) (other : ArePlain y) (same : Ha
       (text x ∙ texts-of_rows calls ∙ sym (text y))
 
   schedules : x.schedules ≡ y.schedules
-  schedules =
-      same-schedules 1 x.schedules y.schedules one.schedules other.schedules (few-of x one) (few-of y other) numbered journeys
+  schedules = same-schedules 1 x.schedules y.schedules one.schedules other.schedules (few-of x one) (few-of y other) numbered journeys
 
   same-lines : x ≡ y
-  same-lines = λ i. record {
-    header = headers i;
-    tiplocs = tiplocs i;
-    associations = associations i;
-    schedules = schedules i;
-  }
+  same-lines = λ i. record { header = headers i; tiplocs = tiplocs i; associations = associations i; schedules = schedules i }
 
 -- ---- the text of lines
 
@@ -115,8 +109,7 @@ abbrev all_lines : ScheduleLines → List (List ℕ)
 all_lines s = s.basic ∷ s.further
 
 abbrev text_of : ExtractLines → List ℕ
-text_of x =
-    lines_text (x.header ∷ (x.tiplocs ++ (x.associations ++ (flat_map all_lines x.schedules ++ (plain_line trailer_table ∷ [])))))
+text_of x = lines_text (x.header ∷ (x.tiplocs ++ (x.associations ++ (flat_map all_lines x.schedules ++ (plain_line trailer_table ∷ [])))))
 
 lines-of_schedules : (ss : List Schedule) → flat_map plain_lines_of ss ≡ flat_map all_lines (map lines_of_schedule ss)
 lines-of_schedules ss = sym (flat_map-map all_lines lines_of_schedule ss)
@@ -129,8 +122,7 @@ text-is x =
 -- it has a byte at least for each line
 some-byte : (ls : List (List ℕ)) → length ls ≤ length (lines_text ls)
 some-byte [] = omega arith
-some-byte (l ∷ ls) =
-    omega (arith, some-byte ls, length-append (l ++ (10 ∷ [])) (lines_text ls), length-append l (10 ∷ []))
+some-byte (l ∷ ls) = omega (arith, some-byte ls, length-append (l ++ (10 ∷ [])) (lines_text ls), length-append l (10 ∷ []))
 
 -- ---- what a canonical extract has
 
@@ -154,15 +146,13 @@ lines_of_entry e = record {
 
 of-map : {X Y : Type 0} (P : Y → Type 0) (f : X → Y) (xs : List X) → All P (map f xs) → All (λ x. P (f x)) xs
 of-map P f [] all = All-nil (λ x. P (f x))
-of-map P f (x ∷ xs) all =
-    All-cons (λ y. P (f y)) x xs (All-head P (f x) (map f xs) all) (of-map P f xs (All-tail P (f x) (map f xs) all))
+of-map P f (x ∷ xs) all = All-cons (λ y. P (f y)) x xs (All-head P (f x) (map f xs) all) (of-map P f xs (All-tail P (f x) (map f xs) all))
 
 -- what canonical entries have is what their records have
 module _ {A K B : Type 0} (entry : A → K × Terms B) (xs : List A) (es : List (K × Permanent B)) (are : map entry xs ≡ permanent_entries es)
   where
     by-records : {C : Type 0} (of : K × Terms B → C) → map (λ x. of (entry x)) xs ≡ map (λ (e : K × Permanent B). of (e.0, terms_of e.1)) es
-    by-records of =
-        sym (map-map of entry xs) ∙ ap (map of) are ∙ map-map of (λ (e : K × Permanent B). (e.0, terms_of e.1)) es
+    by-records of = sym (map-map of entry xs) ∙ ap (map of) are ∙ map-map of (λ (e : K × Permanent B). (e.0, terms_of e.1)) es
 
     -- what holds of the entries holds of the records
     of-records : (P : K × Terms B → Type 0) → All (λ x. P (entry x)) xs → All (λ (e : K × Permanent B). P (e.0, terms_of e.1)) es
@@ -219,8 +209,7 @@ module _ (form : Form) (x : ExtractParts) (text : List ℕ) (is : IsCanonicalTex
       record {
         header = record { it = x.header; fits = fits.header; is = refl };
         tiplocs = plain-all tiploc_table x.tiplocs fits.tiplocs;
-        associations = plain-associations x.associations is.canonical.associations.records is.canonical.associations.are
-            fits.associations;
+        associations = plain-associations x.associations is.canonical.associations.records is.canonical.associations.are fits.associations;
         schedules = schedules;
         few = count;
       }
@@ -248,10 +237,7 @@ module _ (form other : Form) (x y : ExtractParts) (c d : CanonParts) (one : IsCa
       two.canonical.canonical.spelled
 
   pub same-text : HaveSameTables c.lines d.lines ↔ (c.text ≡ d.text)
-  same-text = (
-    text-of_tables,
-    λ same table not. ap (table_text table) (one.lines_are ∙ ap lines_of (one-made same) ∙ sym two.lines_are),
-  )
+  same-text = (text-of_tables, λ same table not. ap (table_text table) (one.lines_are ∙ ap lines_of (one-made same) ∙ sym two.lines_are))
 
 -- of one form they have the same tables exactly if they say the same
 module _ (form : Form) (x y : ExtractParts) (c d : CanonParts) (one : IsCanonOf form x c) (two : IsCanonOf form y d)

@@ -11,7 +11,6 @@ use borrow.Rule.Slice.PartMut.{put_mid}
 use Rattle.std.proofs.lemmas.Slice.{take-put_mid}
 use Rattle.cif_canon.{proofs.ViewLines.joined, specs.Fields.after, specs.declared.rows.Shape.Shape}
 use Rattle.cif_views.specs.declared.columns.JourneyKind.TheVariants.{Origin, Terminus}
-use Rattle.cif_views.specs.declared.columns.FieldPlace.TheVariants as place
 
 -- fields with a tab before each are a row without the first tab
 pub row-text : (first : Field) (fields : List Field) → drop 1 (after Tsv (first ∷ fields)) ++ codes "\n" ≡ line_of Tsv (first ∷ fields)
@@ -121,12 +120,10 @@ listed-rows table x (inr (inr (inr e))) = rw e refl
 
 -- the rows of a journey, line by line
 pub calls-of_lines : (n : ℕ) (s : ScheduleLines) → journey_rows true n s.further ≡ schedule_rows Calls n s
-calls-of_lines n s =
-    sym (filtered (λ p. is_call (kind_of_line p.line)) (row_line call_fields) (numbered_from n 1 s.further))
+calls-of_lines n s = sym (filtered (λ p. is_call (kind_of_line p.line)) (row_line call_fields) (numbered_from n 1 s.further))
 
 pub changes-of_lines : (n : ℕ) (s : ScheduleLines) → journey_rows false n s.further ≡ schedule_rows Changes n s
-changes-of_lines n s =
-    sym (filtered (λ p. is_change (kind_of_line p.line)) (row_line change_fields) (numbered_from n 1 s.further))
+changes-of_lines n s = sym (filtered (λ p. is_change (kind_of_line p.line)) (row_line change_fields) (numbered_from n 1 s.further))
 
 -- there are lines, or there is none, by a test
 pub some-lines : {A : Type 0} (lines : List A) (none : Bool) → none ≡ (length lines == 0) → none ≡ false → 0 < length lines

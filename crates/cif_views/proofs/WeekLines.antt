@@ -73,10 +73,7 @@ module _ {B : Type 0} (records : Records B) (lawful : AreLawful records) (d : �
   some-body r has other (Some b) is = (b, is)
 
   letter-runs : (s : DayState) → IsDayState records d s → Running s ↔ (IsClear records d × ((b : B) × Runs records d (Some b)))
-  letter-runs state.NoneApplies none = (
-    λ h. absurd h,
-    λ runs. none runs.1.1.winner runs.1.1.wins.listed runs.1.1.wins.applies,
-  )
+  letter-runs state.NoneApplies none = (λ h. absurd h, λ runs. none runs.1.1.winner runs.1.1.wins.listed runs.1.1.wins.applies)
   letter-runs state.Clash clash = (
     λ h. absurd h,
     λ runs. clash.bodies_differ (runs.0.agree clash.one clash.other clash.one_wins clash.other_wins),
@@ -139,8 +136,7 @@ module _ (first last : ℕ) (state_on : ℕ → DayState) (d : ℕ) (from : firs
       slice_get-get_or (cells week) weekday 0 (omega arith)
       ∙ ap Some (get_or-map-range_with_len (cell first last state_on week) 0 7 weekday weekday 0 (omega arith) (omega arith) ∙ cell-is)
 
-  monday-by : (early : Bool) → nat_lt d weekday ≡ early →
-      monday_columns week ≡ (if early then codes "      " else yymmdd_of (d - weekday))
+  monday-by : (early : Bool) → nat_lt d weekday ≡ early → monday_columns week ≡ (if early then codes "      " else yymmdd_of (d - weekday))
   monday-by true is =
       let before = ltb-true d weekday is in
       ap (λ b. cond b (codes "      ") (yymmdd_of (week * 7 - 4))) (lt-ltb (week * 7) 4 (omega (arith, before)))

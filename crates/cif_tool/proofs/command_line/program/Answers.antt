@@ -8,17 +8,13 @@ unfolding cif
 loop-parts-init c =
     let made = program_made (codes "cif") _ _ c.version.result c.subcommand_required-command.result c.described.ensures
     c.version.ensures c.subcommand_required-command.ensures in
-    record {
-      app = ap (λ (a : App). with_subcommands c.args.choices.now a subcommands) made.app;
-      local = made.local;
-    }
+    record { app = ap (λ (a : App). with_subcommands c.args.choices.now a subcommands) made.app; local = made.local }
 
 pub with_parts-requires : goal.with_parts-requires
 with_parts-requires c = c.loop-parts.invariant.local
 
 pub loop-parts-preserved : goal.loop-parts-preserved
-loop-parts-preserved c =
-    subcommand_added _ _ _ _ _ c.loop-parts-test.true _ _ c.loop-parts.invariant c.in_ok-command.ensures
+loop-parts-preserved c = subcommand_added _ _ _ _ _ c.loop-parts-test.true _ _ c.loop-parts.invariant c.in_ok-command.ensures
 
 pub returns : goal.returns
 returns c =

@@ -12,5 +12,4 @@ loop-clash-preserved g c =
     c.loop-clash-test.true c.clash-item.is (text-is _ _ _ _ _ _ (c.as_str.ensures.value ∙ c.line_of.ensures) c.append.ensures)
 
 pub returns : goal.returns
-returns g c =
-    all-items _ _ clash_line c.args.clashes.now c.loop-clash.clash-index _ _ c.loop-clash.invariant c.loop-clash-test.false
+returns g c = all-items _ _ clash_line c.args.clashes.now c.loop-clash.clash-index _ _ c.loop-clash.invariant c.loop-clash-test.false

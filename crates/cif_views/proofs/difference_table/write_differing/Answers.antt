@@ -5,8 +5,7 @@ use Rattle.cif_views.proofs.DifferingFields.{text-at}
 use Rattle.cif_views.proofs.difference_table.write_differing.Goals as goal
 
 pub write_field-requires-clause-field : goal.write_field-requires-clause-field
-write_field-requires-clause-field g c =
-    text-at c.args.fields.now c.requires.fields c.loop-field.field-index _ c.loop-field-test.true
+write_field-requires-clause-field g c = text-at c.args.fields.now c.requires.fields c.loop-field.field-index _ c.loop-field-test.true
 
 pub loop-field-preserved : goal.loop-field-preserved
 loop-field-preserved g c =

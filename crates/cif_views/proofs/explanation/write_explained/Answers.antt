@@ -5,10 +5,7 @@ use Rattle.cif_canon.proofs.AppendedTexts.{behind, nothing, text-is}
 use Rattle.cif_views.proofs.explanation.write_explained.Goals as goal
 
 pub loop-i-init : goal.loop-i-init
-loop-i-init g c = record {
-  written = ([], (refl, All-nil _), nothing _ _ _);
-  last = λ j is. absurd (omega (arith, is));
-}
+loop-i-init g c = record { written = ([], (refl, All-nil _), nothing _ _ _); last = λ j is. absurd (omega (arith, is)) }
 
 pub loop-i-preserved : goal.loop-i-preserved
 loop-i-preserved g c =

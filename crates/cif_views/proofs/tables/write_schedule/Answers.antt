@@ -29,8 +29,7 @@ pub push_each-requires-clause-room : goal.push_each-requires-clause-room
 push_each-requires-clause-room g c = omega (arith, ap length c.new-row.ensures, c.push_number.ensures.len)
 
 pub push_each-requires-2-clause-room : goal.push_each-requires-2-clause-room
-push_each-requires-2-clause-room g c =
-    omega (arith, ap length c.new-row.ensures, c.push_number.ensures.len, c.push_each.ensures.len)
+push_each-requires-2-clause-room g c = omega (arith, ap length c.new-row.ensures, c.push_number.ensures.len, c.push_each.ensures.len)
 
 pub write-requires-clause-room : goal.write-requires-clause-room
 write-requires-clause-room g c =

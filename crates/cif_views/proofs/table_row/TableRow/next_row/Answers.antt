@@ -1,8 +1,13 @@
--- The rows that wait are written (`all-written`), or one more goes behind them (`further-row`).
+-- No row waits (`none-waits`), those that wait are written (`all-written`), or one more goes behind them (`further-row`).
 use Rattle.cif_views.proofs.Names.{List, ap, arith, drop, drop-take, length, length-take-le, sym, take, take-take, ℕ, ◌++◌, ◌+◌, ◌-◌, ◌<◌}
 use Rattle.cif_views.proofs.Names.{◌∙◌, ◌∷◌, ◌≡◌}
-use Rattle.cif_views.proofs.GatheredRows.{all-written, begins, first-row, further-row}
+use Rattle.cif_views.proofs.GatheredRows.{all-written, begins, first-row, further-row, none-waits}
 use Rattle.cif_views.proofs.table_row.TableRow.next_row.Goals as goal
+
+pub returns-then-len-begun-clause-text : goal.returns-then-len-begun-clause-text
+returns-then-len-begun-clause-text g c = λ row text s long h.
+    let short : length c.args.self.now ≡ length row = omega (arith, c.len.ensures, c.if-len-begun.true, long) in
+    let (written, is) = none-waits _ _ row text s _ _ h short in first-row _ _ row text s _ _ written is
 
 pub returns-then-len-gt-FULL-clause-text : goal.returns-then-len-gt-FULL-clause-text
 returns-then-len-gt-FULL-clause-text g c = λ row text s long h.

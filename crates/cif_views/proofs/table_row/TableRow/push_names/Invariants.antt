@@ -7,6 +7,5 @@ abbrev pub invariant-loop-column : goal.invariant-loop-column
 invariant-loop-column l = record {
   text : l.self ++ after Tsv (name_fields (named (drop l.column-index l.columns)))
       ≡ l.initial.self ++ after Tsv (name_fields (named l.columns));
-  room : length l.self + room_for_names (named (drop l.column-index l.columns))
-      ≤ length l.initial.self + room_for_names (named l.columns);
+  room : length l.self + room_for_names (named (drop l.column-index l.columns)) ≤ length l.initial.self + room_for_names (named l.columns);
 }
