@@ -170,12 +170,11 @@ fn named_job(name: &str, matches: &ArgMatches<'_>) -> Result<Job, JobFault>
         })),
         _ => {
             let asked = asked_of(matches)?;
+            let canonical = canonical_job(asked, matches);
             match name {
-                "normalise" => Ok(Job::Normalise(canonical_job(asked, matches))),
-                "check" if has_flag(matches, "all") => {
-                    Ok(Job::CheckAll(canonical_job(asked, matches)))
-                }
-                "check" => Ok(Job::Check(canonical_job(asked, matches))),
+                "normalise" => Ok(Job::Normalise(canonical)),
+                "check" if has_flag(matches, "all") => Ok(Job::CheckAll(canonical)),
+                "check" => Ok(Job::Check(canonical)),
                 "compare" => Ok(Job::Compare(compare_job(asked, matches))),
                 "diff" => Ok(Job::Diff(DiffJob {
                     compared: compare_job(asked, matches),
@@ -184,7 +183,7 @@ fn named_job(name: &str, matches: &ArgMatches<'_>) -> Result<Job, JobFault>
                 "clashes" => Ok(Job::Clashes(asked)),
                 "table" => Ok(Job::Table(TableJob {
                     table: table_of(required_word(matches, "TABLE")),
-                    canonical: canonical_job(asked, matches),
+                    canonical,
                 })),
                 _ => Err(JobFault::NoCommand),
             }
