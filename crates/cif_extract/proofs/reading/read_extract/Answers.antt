@@ -7,12 +7,30 @@ use Rattle.cif_columns.{proofs.PassedLines.next_passed, specs.declared.ahead.Mos
 use Rattle.cif_extract.proofs.ReadingRuns.{HasCome, come_more, come_none, comes-end, comes-line_fault, comes-memory, comes-untaken}
 use Rattle.cif_extract.proofs.reading.read_extract.Goals as goal
 
-pub loop-columns-preserved-in-loop-columns : goal.loop-columns-preserved-in-loop-columns
-loop-columns-preserved-in-loop-columns g c =
+pub loop-columns-preserved-then-goes_on_plainly : goal.loop-columns-preserved-then-goes_on_plainly
+loop-columns-preserved-then-goes_on_plainly g c =
+    let (ls, so_far, come, read_on) = c.loop-columns.invariant in
+    let columns = c.in-Some.columns.now in
+    let plain = c.if-goes_on_plainly.ensures refl in
+    let next = next_passed g.R.Read.remaining g.R.ReadDevice.read_errors (Of 82) c.loop-columns.lines c.pass_line.new.self
+    c.loop-columns.source columns c.in-Some.ensures plain.is_line.printable c.pass_line.ensures in
+    let more : given c.pass_line.new.self ≡ given c.loop-columns.lines + 1 = next.counted in
+    let room : length ls < c.args.max_lines =
+    omega (arith, more, so_far.counted, so_far.same_limit, next.limit_now, c.pass_line.new.self.counted) in (
+      ls ++ columns ∷ [],
+      reading_line g.R.Read.remaining _ _ _ _ ls so_far c.pass_line.new.self c.loop-columns.source columns next.answer next.past_now
+          next.limit_now more,
+      come_more c.args.max_lines ls columns plain.is_line room (progress_of c.loop-columns.reading) come
+          (progress_of c.take_plain_stop.new.self) c.in_ok-take_plain_stop.ensures,
+      read_on,
+    )
+
+pub loop-columns-preserved-in-Some-goes_further_plainly : goal.loop-columns-preserved-in-Some-goes_further_plainly
+loop-columns-preserved-in-Some-goes_further_plainly g c =
     let (ls, so_far, come, read_on) = c.loop-columns.invariant in
     let columns = c.in-Some.columns.now in
     let plain = c.in-Some-goes_further_plainly.ensures.plain in
-    let passed = c.pass_line in
+    let passed = c.pass_line-in-Some-goes_further_plainly in
     let next = next_passed g.R.Read.remaining g.R.ReadDevice.read_errors (Of 82) c.loop-columns.lines passed.new.self
     c.loop-columns.source columns c.in-Some.ensures plain.is_line.printable passed.ensures in
     let more : given passed.new.self ≡ given c.loop-columns.lines + 1 = next.counted in
@@ -51,8 +69,8 @@ loop-columns-init g c = (
   search rules,
 )
 
-pub returns-in_err-take_plain_further : goal.returns-in_err-take_plain_further
-returns-in_err-take_plain_further g c =
+pub returns-in_err-take_plain_stop : goal.returns-in_err-take_plain_stop
+returns-in_err-take_plain_stop g c =
     rw (at-fault c.from_residual.result Memory c.from_residual.ensures.1) (comes-memory _ _ c.args.max_lines _ _ c.loop-columns.invariant.3)
 
 pub returns-in-Err-take : goal.returns-in-Err-take
@@ -110,6 +128,9 @@ returns-in-Ok-false g c =
 
 pub take-requires : goal.take-requires
 take-requires g c = let (ls, so_far, come, read_on) = c.loop-columns.invariant in (come.taken.records, come.taken.read)
+
+pub take_plain_stop-requires : goal.take_plain_stop-requires
+take_plain_stop-requires g c = c.if-goes_on_plainly.ensures refl
 
 pub take_plain_further-requires-clause-read : goal.take_plain_further-requires-clause-read
 take_plain_further-requires-clause-read g c =
