@@ -23,14 +23,7 @@ pub record Way (lines : List (List ℕ)) (calls : List Call) (terminus : Terminu
 pub way : (lines : List (List ℕ)) (calls : List Call) (terminus : Terminus)
     → KeepAll lines (map record_table (map call_record calls ++ (of.Terminus terminus ∷ []))) → Way lines calls terminus
 way [] [] terminus k = absurd k
-way (line ∷ []) [] terminus k = record {
-  front = [];
-  last = line;
-  is = refl;
-  spelled = All-nil SpellsSomeCall;
-  called = refl;
-  ended = k.0;
-}
+way (line ∷ []) [] terminus k = record { front = []; last = line; is = refl; spelled = All-nil SpellsSomeCall; called = refl; ended = k.0 }
 way (line ∷ next ∷ lines) [] terminus k = absurd k.2
 way [] (call ∷ calls) terminus k = absurd k
 way (line ∷ lines) (call ∷ calls) terminus k =
@@ -99,25 +92,13 @@ module _ (detail : Detail) (origin : Origin) (calls : List Call) (terminus : Ter
   kept_parts (l ∷ lo ∷ lines) None k =
       let none : is_extra lo ≡ false = rw k.2.0.0 in
       let there = journey_of (lo ∷ lines) origin calls terminus k.2 in
-      record {
-        longer = omega (arith, there.longer);
-        detailed = k.0;
-        marked = none;
-        further = tt;
-        way = rw none k.2;
-      }
+      record { longer = omega (arith, there.longer); detailed = k.0; marked = none; further = tt; way = rw none k.2 }
   kept_parts [] (Some extra) k = absurd k
   kept_parts (l ∷ []) (Some extra) k = absurd k.2
   kept_parts (l ∷ bx ∷ lines) (Some extra) k =
       let some : is_extra bx ≡ true = rw k.2.0.0 in
       let there = journey_of lines origin calls terminus k.2.2 in
-      record {
-        longer = omega (arith, there.longer);
-        detailed = k.0;
-        marked = some;
-        further = k.2.0;
-        way = rw some k.2.2;
-      }
+      record { longer = omega (arith, there.longer); detailed = k.0; marked = some; further = k.2.0; way = rw some k.2.2 }
 
 pub kept : (lines : List (List ℕ)) (p : BodyParts) → KeepBody lines p → Kept lines p
 kept lines p k = kept_parts p.detail p.origin p.calls p.terminus lines p.extra k
@@ -175,10 +156,7 @@ body_of-parts_in lines h =
 
 -- bodies are equal where their parts are
 pub equal_parts : (a b : BodyLines) → KeepSomeBody a → KeepSomeBody b → (a ≡ b) ↔ (parts_in a ≡ parts_in b)
-equal_parts a b one other = (
-  λ e. ap parts_in e,
-  λ e. body_of-parts_in a one ∙ ap body_of e ∙ sym (body_of-parts_in b other),
-)
+equal_parts a b one other = (λ e. ap parts_in e, λ e. body_of-parts_in a one ∙ ap body_of e ∙ sym (body_of-parts_in b other))
 
 -- the journey that stands in the lines of a body
 pub some_journey : (lines : BodyLines) → KeepSomeBody lines

@@ -47,12 +47,7 @@ stand_calls (Turn c ∷ calls) t = (refl, stand_calls calls t)
 module _ (from : Place) (may : may_stand from Bs ≡ true) (b : Basic) where
   stand_journey : (x : Option Extra) (o : Origin) (calls : List Call) (t : Terminus) →
       IsOpen from (of.Basic b ∷ (extra_records x ++ journey_records o calls t))
-  stand_journey x o calls t = record {
-    to = at.Schedules;
-    stand = (may, behind (has_body b.letter) x);
-    schedule = refl;
-    trailer = refl;
-  }
+  stand_journey x o calls t = record { to = at.Schedules; stand = (may, behind (has_body b.letter) x); schedule = refl; trailer = refl }
     where
       behind : (r : Bool) (x : Option Extra) →
           MayStand (cond r at.Basic at.Cancelled) (extra_records x ++ journey_records o calls t) at.Schedules

@@ -111,8 +111,7 @@ pub in_order-begins : (line : List ℕ) (lines : List (List ℕ)) (rs : List Rec
 in_order-begins line lines [] are_lines spell order = absurd spell
 in_order-begins line lines (r ∷ rs) are_lines spell order =
     let none : IsReadSoFar [] [] = record {
-      progress
-          = no_progress;
+      progress = no_progress;
       read = record { none = refl; tiplocs = refl; associations = refl; schedules = refl };
       behind = refl;
     } in

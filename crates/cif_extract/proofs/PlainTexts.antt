@@ -112,8 +112,7 @@ fit-schedule own s a fits =
       body = body.1;
     }
 
-fit-schedules : (rs : List Record) (schedules : List Schedule) → AreSchedules rs schedules → Each RecordFits rs →
-    All ScheduleFits schedules
+fit-schedules : (rs : List Record) (schedules : List Schedule) → AreSchedules rs schedules → Each RecordFits rs → All ScheduleFits schedules
 fit-schedules rs [] are fits = All-nil ScheduleFits
 fit-schedules rs (s ∷ schedules) are fits =
     let (own, others, parts, first, rest) = are in
@@ -186,8 +185,7 @@ schedules-fit (s ∷ ss) fits =
     (schedules-fit ss (All-tail ScheduleFits s ss fits))
 
 lines-append : (a b : List Record) → lines_of (a ++ b) ≡ lines_of a ++ lines_of b
-lines-append a b =
-    ap (map plain_line) (map-append record_table a b) ∙ map-append plain_line (map record_table a) (map record_table b)
+lines-append a b = ap (map plain_line) (map-append record_table a b) ∙ map-append plain_line (map record_table a) (map record_table b)
 
 lines-map : {X : Type 0} (f : X → Record) (xs : List X) → lines_of (map f xs) ≡ map (λ x. plain_line (record_table (f x))) xs
 lines-map f [] = refl

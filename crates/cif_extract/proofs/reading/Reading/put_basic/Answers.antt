@@ -21,6 +21,5 @@ returns-in_ok-push c = λ b terms detail.
     ap (λ (t : BasicTerms). has_body t.letter) (sym terms) ∙ sym c.has_body.ensures ∙ c.if-has_body.false in
     let none = no_detail_there b lacks in (
       keepable_none b none,
-      rw c.in_ok-push.ensures.items
-          (begun_none (progress_of c.args.self.now) b _ terms b.detail b.bodied none c.of.result c.of.ensures),
+      rw c.in_ok-push.ensures.items (begun_none (progress_of c.args.self.now) b _ terms b.detail b.bodied none c.of.result c.of.ensures),
     )

@@ -12,5 +12,4 @@ pub end_schedule-requires : goal.end_schedule-requires
 end_schedule-requires c = (progress_of c.args.self.now, c.args.line.now, last (goal.at.end_schedule-requires c).In_ok-keep)
 
 pub returns : goal.returns
-returns c =
-    (c.in_ok-keep.ensures.0, c.in_ok-end_schedule.ensures _ _ (last (goal.at.returns c).In_ok-keep))
+returns c = (c.in_ok-keep.ensures.0, c.in_ok-end_schedule.ensures _ _ (last (goal.at.returns c).In_ok-keep))
