@@ -8,8 +8,7 @@ use Rattle.cif_calendar.proofs.Names.{◌++◌, ◌+◌, ◌<◌, ◌∙◌, ◌
 
 module _ {B : Type 0} (xs : List (Terms B)) (members : List ℕ) (records : Records B) (d : ℕ) where
   disputed : (k : ℕ) → Stands xs members records d (Disputed k) → IsClash records d
-  disputed k (t, at, is) =
-      record { one = t; other = is.rival; one_wins = is.wins; other_wins = is.rival_wins; bodies_differ = is.apart }
+  disputed k (t, at, is) = record { one = t; other = is.rival; one_wins = is.wins; other_wins = is.rival_wins; bodies_differ = is.apart }
 
   pub undisputed : (s : Standing) → ((k : ℕ) → s ≡ Disputed k → ⊥) → Stands xs members records d s → IsClear records d
   undisputed Nobody never none = record { agree = λ r s r_wins s_wins. absurd (none.none r r_wins.listed r_wins.applies) }
@@ -33,10 +32,7 @@ module _ {B : Type 0} (records : Records B) (first to : ℕ) (days : List ℕ) (
           absurd (c.bodies_differ ((none d late is.before).agree c.one c.other c.one_wins c.other_wins)))
           (cases_lt d to),
     );
-    clear = λ d from before lacks. ⊎_elim
-        (λ early. so_far.clear d from early lacks)
-        (λ late. none d late before)
-        (cases_lt d to);
+    clear = λ d from before lacks. ⊎_elim (λ early. so_far.clear d from early lacks) (λ late. none d late before) (cases_lt d to);
   }
 
   dates-push : first ≤ to → IsClash records to → AreClashDates records first (to + 1) (days ++ to ∷ [])

@@ -40,10 +40,7 @@ module _ {B : Type 0} (records : Records B) (first to : ℕ) (states more : List
       (cases_lt i (length states))
 
   pub states-more : (next : ℕ) → to + 1 ≡ next → AreDayStates records first next more
-  states-more next end = rw is (record {
-    many = omega (arith, so_far.many, length-append states (s ∷ []));
-    each = each-more;
-  })
+  states-more next end = rw is (record { many = omega (arith, so_far.many, length-append states (s ∷ [])); each = each-more })
 
 -- P holds of what was made of the days before `to`, and the stretches that are left follow, from day `first` on.
 pub record IsMadeOf {B S : Type 0} (P : ℕ → List S → Type 0) (xs : List (Terms B)) (members : List ℕ) (last first : ℕ) (ss : List Stretch)

@@ -37,11 +37,7 @@ left-used {B} xs (i ∷ members) d e j r h in' at b = ⊎_elim
     let here : slice_get xs i ≡ Some r = ap (slice_get xs) same ∙ at in
     let used : breaks_at (slice_get xs i) (e + 1) + 1 ≤ breaks_at (slice_get xs i) d = rw here (breaks_at-used d e r h b) in
     omega (arith, used, left-falls xs members d (e + 1) (omega arith)))
-    (λ rest. omega (
-      arith,
-      breaks_at-falls (slice_get xs i) d (e + 1) (omega arith),
-      left-used xs members d e j r h rest at b,
-    ))
+    (λ rest. omega (arith, breaks_at-falls (slice_get xs i) d (e + 1) (omega arith), left-used xs members d e j r h rest at b))
     (Contains-cases i members j in')
 
 -- the next piece begins at a break that was left

@@ -57,12 +57,10 @@ module _ {K B : Type 0} (cmp : K → K → Ordering) (es : List (K × Terms B)) 
     later = later-less cmp total es rest (AnyHasKey es rest) s.passed run.key leads n run.count
 
     passed-on : HasPassed cmp es (drop n rest) (AnyHasKey es (drop n rest))
-    passed-on =
-        passed-more cmp total es rest (AnyHasKey es rest) s.passed run.key leads n run.count (AnyHasKey es (drop n rest)) left later
+    passed-on = passed-more cmp total es rest (AnyHasKey es rest) s.passed run.key leads n run.count (AnyHasKey es (drop n rest)) left later
 
     gone : (k : K) → (AnyHasKey es (drop n rest) k → ⊥) → (k ≡ run.key → ⊥) → AnyHasKey es rest k → ⊥
-    gone k none apart any =
-        ⊎_elim apart none (key-or-later cmp total es rest (AnyHasKey es rest) s.passed run.key leads n run.count k any)
+    gone k none apart any = ⊎_elim apart none (key-or-later cmp total es rest (AnyHasKey es rest) s.passed run.key leads n run.count k any)
 
     -- a key without a clash
     searched-clear : IsClearFrom (of_key es run.key) first last → IsSearched found (drop n rest)

@@ -25,11 +25,7 @@ module _ {K B : Type 0} (es : List (K × Terms B)) (k : K) where
     before-more same = record {
       found = λ i in'. ⊎_elim
           (λ old. p.found i old)
-          (λ is. (
-            has.terms,
-            subst (λ q. slice_get es q ≡ Some (k, has.terms)) is
-                (has.at ∙ ap (λ q. Some (q, has.terms)) same),
-          ))
+          (λ is. (has.terms, subst (λ q. slice_get es q ≡ Some (k, has.terms)) is (has.at ∙ ap (λ q. Some (q, has.terms)) same)))
           (Contains-push_cases positions n i in');
       all = λ i r below at. ⊎_elim
           (λ old. Contains-append_left positions (n ∷ []) i (p.all i r old at))

@@ -7,8 +7,7 @@ none-some : {B : Type 0} (r : Terms B) (b : B) → r.body ≡ Some b → IsNone 
 none-some r b e n = let h = rw e at n in cc
 
 -- where a body runs, something runs
-pub nothing-body : {B : Type 0} (records : Records B) (d : ℕ) (b : B) → AreLawful records → NothingRuns records d →
-    BodyRuns records d b → ⊥
+pub nothing-body : {B : Type 0} (records : Records B) (d : ℕ) (b : B) → AreLawful records → NothingRuns records d → BodyRuns records d b → ⊥
 nothing-body records d b l n q = none-some q.winner b q.body ((l.cancelled q.winner q.wins.listed).1 (n.cancelled q.winner q.wins))
 
 -- where no body runs, nothing does

@@ -8,9 +8,7 @@ module _ {K B : Type 0} where
 
   pub EntriesSayTheSame-sym : (xs ys : List (K × Terms B)) (first last : ℕ) →
       EntriesSayTheSame xs ys first last → EntriesSayTheSame ys xs first last
-  EntriesSayTheSame-sym xs ys first last e = record {
-    same = λ k d o from upto. ((e.same k d o from upto).1, (e.same k d o from upto).0);
-  }
+  EntriesSayTheSame-sym xs ys first last e = record { same = λ k d o from upto. ((e.same k d o from upto).1, (e.same k d o from upto).0) }
 
   pub EntriesSayTheSame-trans : (xs ys zs : List (K × Terms B)) (first last : ℕ) → EntriesSayTheSame xs ys first last →
       EntriesSayTheSame ys zs first last → EntriesSayTheSame xs zs first last

@@ -4,18 +4,10 @@ use Rattle.cif_calendar.proofs.Names.{Wins, ℕ}
 
 module _ {B : Type 0} (xs ys : Records B) (e : SameRecords xs ys) where
   pub Wins-same : (d : ℕ) (r : Terms B) → Wins xs d r → Wins ys d r
-  Wins-same d r w = record {
-    listed = (e.same r).0 w.listed;
-    applies = w.applies;
-    least = λ s in' on. w.least s ((e.same s).1 in') on;
-  }
+  Wins-same d r w = record { listed = (e.same r).0 w.listed; applies = w.applies; least = λ s in' on. w.least s ((e.same s).1 in') on }
 
   pub Wins-same_back : (d : ℕ) (r : Terms B) → Wins ys d r → Wins xs d r
-  Wins-same_back d r w = record {
-    listed = (e.same r).1 w.listed;
-    applies = w.applies;
-    least = λ s in' on. w.least s ((e.same s).0 in') on;
-  }
+  Wins-same_back d r w = record { listed = (e.same r).1 w.listed; applies = w.applies; least = λ s in' on. w.least s ((e.same s).0 in') on }
 
   pub IsClear-same : (d : ℕ) → IsClear xs d → IsClear ys d
   IsClear-same d c = record { agree = λ r s v w. c.agree r s (Wins-same_back d r v) (Wins-same_back d s w) }

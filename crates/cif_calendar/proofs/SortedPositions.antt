@@ -57,7 +57,6 @@ module _ {K B R : Type 0} (stands_for : R → K → Type 0) (entries : List (K �
         let swapped = IsPermutation-map (λ (p : R × ℕ). p.1) ranked sorted moved in
         record {
           within = All-permutation (λ i. i < n) _ _ swapped (All-same (λ i. i < n) _ _ h.positions (range-within n));
-          whole = λ i l. Contains-permutation _ _ i swapped
-              (subst (λ (xs : List ℕ). Contains xs i) (sym h.positions) (range-whole n i l));
+          whole = λ i l. Contains-permutation _ _ i swapped (subst (λ (xs : List ℕ). Contains xs i) (sym h.positions) (range-whole n i l));
           rising = rising sorted (All-permutation Stands ranked sorted moved h.ranks) up;
         }

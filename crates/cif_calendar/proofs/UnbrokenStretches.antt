@@ -45,9 +45,7 @@ module _ {B : Type 0} (records : Records B) (first last : ℕ) (u : IsUnbroken r
   }
 
   clear-alike : (d e : ℕ) → AreAlike first last d e → IsClear records d → IsClear records e
-  clear-alike d e a c = record {
-    agree = λ r s v w. c.agree r s (wins-alike e d r (alike-back a) v) (wins-alike e d s (alike-back a) w);
-  }
+  clear-alike d e a c = record { agree = λ r s v w. c.agree r s (wins-alike e d r (alike-back a) v) (wins-alike e d s (alike-back a) w) }
 
 module _ {B : Type 0} (xs : List (Terms B)) (members : List ℕ) (first last : ℕ)
     (u : IsUnbroken (IsChosen xs members) first last) where

@@ -91,8 +91,7 @@ module _ {B : Type 0} (ys ns zs : Records B) (u : IsUnion ys ns zs) (d : ℕ) wh
     undisputed = λ s w. ⊎_elim (λ old. l.undisputed s old) (λ new. same ∙ m.undisputed s new) (wins-back s w);
   }
 
-  disputed-kept : (t : Terms B) → IsDisputed ys d t → ((s : Terms B) → ns s → Applies s d → precedence t ≤ precedence s) →
-      IsDisputed zs d t
+  disputed-kept : (t : Terms B) → IsDisputed ys d t → ((s : Terms B) → ns s → Applies s d → precedence t ≤ precedence s) → IsDisputed zs d t
   disputed-kept t l least = record {
     wins = wins-kept t l.wins least;
     rival = l.rival;

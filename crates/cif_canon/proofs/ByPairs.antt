@@ -31,10 +31,8 @@ module _ {K B : Type 0} (cmp : K → K → Ordering) (total : IsTotalOrder cmp) 
 
   nothing-between : (s t u : Sided (K × Permanent B)) → ArePair s u → ComesBefore cmp s t → ComesBefore cmp t u → ⊥
   nothing-between s t u pair (inl a) (inl b) = between s.it t.it u.it pair.key pair.first a b
-  nothing-between s t u pair (inl a) (inr (key, first, left, right)) =
-      apart s.it t.it (pair.key ∙ sym key) (pair.first ∙ sym first) a
-  nothing-between s t u pair (inr (key, first, left, right)) (inl b) =
-      apart t.it u.it (sym key ∙ pair.key) (sym first ∙ pair.first) b
+  nothing-between s t u pair (inl a) (inr (key, first, left, right)) = apart s.it t.it (pair.key ∙ sym key) (pair.first ∙ sym first) a
+  nothing-between s t u pair (inr (key, first, left, right)) (inl b) = apart t.it u.it (sym key ∙ pair.key) (sym first ∙ pair.first) b
   nothing-between s t u pair (inr (key, first, left, right)) (inr (key2, first2, left2, right2)) = left≢right (sym left2 ∙ right)
 
   -- the left record of a pair comes first
@@ -91,10 +89,7 @@ module _ {K B : Type 0} (cmp : K → K → Ordering) (total : IsTotalOrder cmp) 
     one-more s found listed order differ l = record {
       are = record {
         parts = ap (λ (l : List (Sided (K × Permanent B))). s ∷ l) l.are.parts;
-        pairs = λ u r h. ⊎_elim
-            (λ e. absurd (none≢some r e.1))
-            (λ later. l.are.pairs u r later)
-            (listed-cases s u None (Some r) listed h);
+        pairs = λ u r h. ⊎_elim (λ e. absurd (none≢some r e.1)) (λ later. l.are.pairs u r later) (listed-cases s u None (Some r) listed h);
         others = λ u v in_u in_v pair. ⊎_elim
             (λ e. ⊎_elim
             (λ f. left≢right (sym pair.left ∙ ap (λ (w : Sided (K × Permanent B)). w.side) (sym e.0 ∙ f.0) ∙ pair.right))
@@ -130,13 +125,9 @@ module _ {K B : Type 0} (cmp : K → K → Ordering) (total : IsTotalOrder cmp) 
       there = λ u h. Contains-rest s (t ∷ found) u (Contains-rest t found u (l.there u (behind u h)));
     } where
       behind : (u : Sided (K × Permanent B)) → Contains ((s, Some t.it) ∷ listed) (u, None) → Contains listed (u, None)
-      behind u h = ⊎_elim
-          (λ e. absurd (none≢some t.it (sym e.1)))
-          (λ later. later)
-          (listed-cases s u (Some t.it) None listed h)
+      behind u h = ⊎_elim (λ e. absurd (none≢some t.it (sym e.1))) (λ later. later) (listed-cases s u (Some t.it) None listed h)
 
-    pub are-by_pairs : (found : List (Sided (K × Permanent B))) → AllPairs (ComesBefore cmp) found →
-        AreByPairs found (by_pairs cmp found)
+    pub are-by_pairs : (found : List (Sided (K × Permanent B))) → AllPairs (ComesBefore cmp) found → AreByPairs found (by_pairs cmp found)
     are-by_pairs found order = (by-steps (λ found listed. AllPairs (ComesBefore cmp) found → AreListed found listed)
         (λ order. record {
           are = record {

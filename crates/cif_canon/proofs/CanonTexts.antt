@@ -41,8 +41,7 @@ tiplocs-text (t ∷ ts) = ap (λ (l : List ℕ). tiploc_text t ++ l) (tiplocs-te
 associations-text : (es : List (AssocKey × Permanent AssocBody)) (h : All IsDated es) →
     flat_map association_text es ≡ lines_text (map line_of_association (associations_of es h))
 associations-text [] h = refl
-associations-text ((k, r) ∷ es) h =
-    ap (λ (l : List ℕ). association_text (k, r) ++ l) (associations-text es (All-tail IsDated (k, r) es h))
+associations-text ((k, r) ∷ es) h = ap (λ (l : List ℕ). association_text (k, r) ++ l) (associations-text es (All-tail IsDated (k, r) es h))
 
 schedules-text : (es : List (List ℕ × Permanent BodyLines)) (h : All IsDated es) →
     flat_map schedule_text es ≡ lines_text (flat_map plain_lines_of (schedules_of es h))

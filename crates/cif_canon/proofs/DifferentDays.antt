@@ -12,8 +12,7 @@ in-week first d from = (first + (d - first) % 7, omega arith, omega arith, omega
 module _ {B : Type 0} (xs : List (Terms B)) (p : Piece) (ys : List (Terms B)) (q : Piece) where
   -- what two pieces have goes by the weekday
   alike-weekday : (d e : ℕ) → weekday_of d ≡ weekday_of e → AreAlikeBy xs p ys q d → AreAlikeBy xs p ys q e
-  alike-weekday d e same h =
-      subst (λ w. body_at xs (get_or p.winners w None) ≡ body_at ys (get_or q.winners w None)) same h
+  alike-weekday d e same h = subst (λ w. body_at xs (get_or p.winners w None) ≡ body_at ys (get_or q.winners w None)) same h
 
   -- seven days are all
   pub alike-week : (first last : ℕ) → ((d : ℕ) → first ≤ d → d < first + 7 → AreAlikeBy xs p ys q d) → (d : ℕ) → first ≤ d → d ≤ last →

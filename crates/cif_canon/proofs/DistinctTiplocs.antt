@@ -15,8 +15,7 @@ all-from P (x ∷ xs) h = All-cons P x xs h.0 (all-from P xs h.1)
 pairs-from : {X : Type 0} (cmp : X → X → Ordering) (xs : List X) → IsStrictlySortedBy cmp xs → AllPairs (λ x y. cmp x y ≡ Less) xs
 unfolding IsStrictlySortedBy
 pairs-from cmp [] h = λ i j d below lt. absurd (omega (arith, lt))
-pairs-from cmp (x ∷ xs) h =
-    AllPairs-cons (λ x y. cmp x y ≡ Less) x xs (all-from (λ y. cmp x y ≡ Less) xs h.0) (pairs-from cmp xs h.1)
+pairs-from cmp (x ∷ xs) h = AllPairs-cons (λ x y. cmp x y ≡ Less) x xs (all-from (λ y. cmp x y ≡ Less) xs h.0) (pairs-from cmp xs h.1)
 
 -- the order and the equality of locations, by their columns
 abbrev by_columns : Tiploc → Tiploc → Ordering

@@ -215,10 +215,7 @@ known-idle : {K B : Type 0} (window : Window) (xs ys : List (K × Terms B)) (k :
     ((side : Side) (t : Terms B) → of_key (at_side xs ys side) k t → ⊥) → IsKnown window xs ys [] k
 known-idle {K} {B} window xs ys k nothing = record {
   clear = λ side. none-clear (of_key (at_side xs ys side) k) (nothing side) window.first window.last;
-  says = λ side d b within. (
-    λ h. absurd (Contains-none (k, h.it) h.listed),
-    λ h. absurd (nothing side h.runs.winner h.runs.wins.listed),
-  );
+  says = λ side d b within. (λ h. absurd (Contains-none (k, h.it) h.listed), λ h. absurd (nothing side h.runs.winner h.runs.wins.listed));
   runs = λ d within. record {
     body = λ side. None;
     runs = λ side. idle (of_key (at_side xs ys side) k) (nothing side) d;
@@ -263,8 +260,7 @@ module _ {K B : Type 0} (window : Window) (xs ys : List (K × Terms B)) (found :
     on = t.runs d within
 
     -- a side says what runs by it and not by the other one
-    says : (side : Side) (b : B) →
-        HasBody (of_key (of_side side found) k) d b ↔ ((on.body side ≡ Some b) × (on.body (other side) ≢ Some b))
+    says : (side : Side) (b : B) → HasBody (of_key (of_side side found) k) d b ↔ ((on.body side ≡ Some b) × (on.body (other side) ≢ Some b))
     says side b =
         let only = t.says side d b within in
         let own = on.runs side (Some b) in
@@ -335,8 +331,7 @@ module _ {K B : Type 0} (window : Window) (xs ys : List (K × Terms B)) (found :
     same-all is = record {
       clear = clear-all;
       same = record {
-        same = λ k d o from upto.
-            silent-same k (known k) d (record { from = from; upto = upto }) (λ side. none-says side k d) o;
+        same = λ k d o from upto. silent-same k (known k) d (record { from = from; upto = upto }) (λ side. none-says side k d) o;
       };
     } where
       none-says : (side : Side) (k : K) (d : ℕ) → SaysNothing side found k d

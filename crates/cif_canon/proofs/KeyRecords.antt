@@ -12,8 +12,7 @@ use Rattle.cif_weeks.specs.Runs.{IsRunOf as IsCalendarRun}
 
 -- sets with the same records say the same
 same-bodies : {B : Type 0} (us vs : Permanents B) → ((r : Permanent B) → us r ↔ vs r) → (d : ℕ) (b : B) → HasBody us d b ↔ HasBody vs d b
-same-bodies us vs same d b =
-    (λ h. HasBody-more us vs (λ r. (same r).0) d b h, λ h. HasBody-more vs us (λ r. (same r).1) d b h)
+same-bodies us vs same d b = (λ h. HasBody-more us vs (λ r. (same r).0) d b h, λ h. HasBody-more vs us (λ r. (same r).1) d b h)
 
 module _ {K B : Type 0} (records : List (K × Permanent B)) (k : K) (own : List (Permanent B)) where
   -- the key's own records say what is said of it, if it had none

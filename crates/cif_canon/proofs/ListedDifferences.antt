@@ -77,8 +77,7 @@ module _ (xs ys : List Tiploc) (found : List (Sided Tiploc)) (a : AreDifferentTi
     λ h. side-member found (with_side side t) ((a.only (with_side side t)).1 h),
   )
 
-  pub tiplocs-turn : (t : Tiploc) → Contains ys t
-      ↔ (Contains (of_side Right found) t ⊎ (Contains xs t × ¬ Contains (of_side Left found) t))
+  pub tiplocs-turn : (t : Tiploc) → Contains ys t ↔ (Contains (of_side Right found) t ⊎ (Contains xs t × ¬ Contains (of_side Left found) t))
   tiplocs-turn t = let left = of-only Left t in let right = of-only Right t in (
     λ h. ⊎_elim (λ has. inr (has, λ only. (left.0 only).1 h)) (λ none. inl (right.1 (h, none))) (has-or-not xs t),
     λ h. ⊎_elim

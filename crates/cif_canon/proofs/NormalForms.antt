@@ -34,8 +34,7 @@ made-unique form x y b c p q same =
 
 -- two canonical bytes are equal where they are made of the same
 bytes-unique : (form : Form) (x y : ExtractParts) (b c : List ℕ) → IsCanonicalOf form x b → IsCanonicalOf form y c → SameMeaning x y → b ≡ c
-bytes-unique form x y b c p q same =
-    p.canonical.text ∙ ap extract_text (made-unique form x y b c p q same) ∙ sym q.canonical.text
+bytes-unique form x y b c p q same = p.canonical.text ∙ ap extract_text (made-unique form x y b c p q same) ∙ sym q.canonical.text
 
 -- and what they are made of says the same where they are equal
 meaning-unique : (form : Form) (x y : ExtractParts) (b c : List ℕ) → IsCanonicalOf form x b → IsCanonicalOf form y c → b ≡ c →
@@ -195,11 +194,7 @@ normal-again form other_form asked x bytes other p q narrowed = record {
     narrowed = narrowed;
     clear = canonical-extract-clear other_form q.made q.canonical.canonical;
   };
-  canonical = record {
-    made = p.made;
-    canonical = p.canonical;
-    same = same-trans q.made x p.made (same-sym x q.made q.same) p.same;
-  };
+  canonical = record { made = p.made; canonical = p.canonical; same = same-trans q.made x p.made (same-sym x q.made q.same) p.same };
 }
 
 -- where x is what was asked for of some extract

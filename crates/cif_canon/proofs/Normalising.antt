@@ -20,8 +20,7 @@ module _ (max : ℕ) (asked : Asked) (bytes : List ℕ) where
   narrowing-fault after whole s _ h = absurd h
 
   -- bytes that aren't read
-  pub narrowed-fault : (after : Unread) (f : Fault) → IsReadNarrowedFault max asked bytes after f →
-      IsNormaliseFault max asked bytes after f
+  pub narrowed-fault : (after : Unread) (f : Fault) → IsReadNarrowedFault max asked bytes after f → IsNormaliseFault max asked bytes after f
   narrowed-fault after (fault.Ambiguous clash) h = absurd h
   narrowed-fault after fault.Write h = absurd h
   narrowed-fault after _ h = h
@@ -39,15 +38,13 @@ module _ (max : ℕ) (asked : Asked) (bytes : List ℕ) where
       (subst (λ w. IsNarrowed asked w y) (one_spelled bytes q.whole p.whole q.spelled.spell p.spelled.spell) q.narrowed)
 
   clash-clear : (x : ExtractParts) → IsClearExtract x → (c : Clash) → IsFirstClashIn x c → ⊥
-  clash-clear x clear (Association key day) h =
-      first_clash-clear _ x.header.first x.header.last day h.clash (clear.associations.key key)
+  clash-clear x clear (Association key day) h = first_clash-clear _ x.header.first x.header.last day h.clash (clear.associations.key key)
   clash-clear x clear (Train uid day) h = first_clash-clear _ x.header.first x.header.last day h.1.clash (clear.schedules.key uid)
 
   -- what is accepted isn't blamed
   pub blames-none : (after : Unread) (x : ExtractParts) → IsAcceptedWithin max asked x bytes → (f : Fault) →
       IsNormaliseFault max asked bytes after f → IsDeviceOrMemory f
-  blames-none after x a (fault.Refused line why) h =
-      absurd (spelled-refused max bytes a.spelled.whole a.spelled.spelled line why h.0)
+  blames-none after x a (fault.Refused line why) h = absurd (spelled-refused max bytes a.spelled.whole a.spelled.spelled line why h.0)
   blames-none after x a (fault.Ambiguous clash) h =
       absurd (clash-clear h.narrowed
       (subst IsClearExtract (one-spelled_narrowed x h.narrowed a.spelled h.spelled) a.clear) clash h.clash_is)

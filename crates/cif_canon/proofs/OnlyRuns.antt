@@ -92,8 +92,5 @@ module _ {B : Type 0} (xs : List (Terms B)) (c : CalendarParts) (ys : List (Term
       aligned = λ r in_r. absurd (Contains-none r in_r);
       separate = λ r s in_r. absurd (Contains-none r in_r);
     };
-    say = λ n b within. (
-      λ h. absurd (h.1 (sym (alike n within.from within.upto) ∙ h.0)),
-      λ h. absurd (Contains-none h.it h.listed),
-    );
+    say = λ n b within. (λ h. absurd (h.1 (sym (alike n within.from within.upto) ∙ h.0)), λ h. absurd (Contains-none h.it h.listed));
   }

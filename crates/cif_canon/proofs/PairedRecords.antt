@@ -108,8 +108,7 @@ module _ {K B : Type 0} (xs ys : List (K × Terms B)) (runs : List (Sided Run)) 
     pair-first other more listed =
         let one = fewer runs some in
         let two = fewer later more in record {
-          first = own-first ∙ listed
-              ∙ ap (with other) (sym (tail-is later));
+          first = own-first ∙ listed ∙ ap (with other) (sym (tail-is later));
           count = 2;
           behind = tail-is later ∙ ap (λ (l : List (Sided Run)). drop 1 l) (tail-is runs) ∙ two-on runs;
           fewer = omega (arith, one, two);

@@ -54,11 +54,7 @@ module _ {K B : Type 0} (xs ys : List (K × Terms B)) where
 pub none-listed : (tiplocs : List (Sided Tiploc)) (xa ya : List (AssocKey × Terms AssocBody)) (ra : List (Sided Run)) →
     All (HasSidedRecord xa ya) ra → (xs ys : List (List ℕ × Terms BodyLines)) (rs : List (Sided Run)) → All (HasSidedRecord xs ys) rs →
     (answer : Bool) → IsTrue answer ↔ ((length tiplocs ≡ 0) × (length ra ≡ 0) × (length rs ≡ 0)) →
-    IsTrue answer ↔ AreNone (record {
-      tiplocs = tiplocs;
-      associations = sided_records xa ya ra;
-      schedules = sided_records xs ys rs;
-    })
+    IsTrue answer ↔ AreNone (record { tiplocs = tiplocs; associations = sided_records xa ya ra; schedules = sided_records xs ys rs })
 none-listed tiplocs xa ya ra all_a xs ys rs all_s answer h = (
   λ yes.
       let n = h.0 yes in record {

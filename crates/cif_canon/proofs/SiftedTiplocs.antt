@@ -73,8 +73,7 @@ module _ (x : Tiploc) (own theirs : List Tiploc) (none : Contains theirs x → �
         (λ is. absurd (apart (ap (λ (s : Sided Tiploc). s.side) is)))
         (λ later. (
           later.0,
-          λ in'. ⊎_elim (λ is. none (subst (λ u. Contains theirs u) (sym is) later.0)) later.1
-              (Contains-cases x own t in'),
+          λ in'. ⊎_elim (λ is. none (subst (λ u. Contains theirs u) (sym is) later.0)) later.1 (Contains-cases x own t in'),
         ))
         h,
   )

@@ -149,8 +149,7 @@ dashed-printable a b c d e f p q r s t u =
     let dash : IsPrintable 45 = (omega arith, omega arith) in
     All-from_recursion IsPrintable (dashed a b c d e f) (p, (q, (dash, (r, (s, (dash, (t, (u, tt))))))))
 
-behind-century : (earlier : Bool) (rest : List ℕ) → ArePrintable rest →
-    ArePrintable ((if earlier then codes "20" else codes "19") ++ rest)
+behind-century : (earlier : Bool) (rest : List ℕ) → ArePrintable rest → ArePrintable ((if earlier then codes "20" else codes "19") ++ rest)
 behind-century true rest p =
     All-cons IsPrintable 50 (48 ∷ rest) (omega arith, omega arith) (All-cons IsPrintable 48 rest (omega arith, omega arith) p)
 behind-century false rest p =
@@ -166,8 +165,7 @@ module _ (yymmdd : List ℕ) where
   -- a date as the code makes it
   pub date-is : (first : List ℕ) → first ≡ century (digit 0) → get_or first 0 0 ∷ get_or first 1 0 ∷ rest-of ≡ long_date yymmdd
   unfolding long_date
-  date-is first is =
-      ap (λ (cs : List ℕ). get_or cs 0 0 ∷ get_or cs 1 0 ∷ rest-of) is ∙ two-first (nat_lt (digit 0) 54) rest-of
+  date-is first is = ap (λ (cs : List ℕ). get_or cs 0 0 ∷ get_or cs 1 0 ∷ rest-of) is ∙ two-first (nat_lt (digit 0) 54) rest-of
 
   -- its bytes can be shown
   pub printable-date : length yymmdd ≡ 6 → ArePrintable yymmdd → ArePrintable (long_date yymmdd)

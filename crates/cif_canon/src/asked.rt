@@ -13,7 +13,7 @@ use std::alloc::Global;
 
 /// The part of an extract's window that is asked for, both dates included. A date that is absent is
 /// that of the header.
-#[derive(Clone, Copy, Debug)]
+#[derive(Clone, Copy)]
 pub struct Asked {
     /// The first date.
     pub from: Option<Day>,

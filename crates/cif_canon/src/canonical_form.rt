@@ -22,7 +22,7 @@ use std::marker::Model;
 
 /// The canonical form of an extract, from which its bodies are borrowed: a clause sees its text, its
 /// lines and its counts.
-#[derive(Debug, Drop)]
+#[derive(Drop)]
 pub struct Canon<'a> {
     pub(crate) extract: &'a Extract,
     /// The locations, each once, rising.

@@ -38,7 +38,7 @@ impl Side {
 }
 
 /// Something that only one side has.
-#[derive(Clone, Copy, Debug, Drop)]
+#[derive(Drop)]
 pub struct Sided<T> {
     /// The side that has it.
     pub side: Side,
@@ -101,7 +101,7 @@ pub(crate) fn push_next<'x, T: Copy + Drop>(
 
 /// What only one of two extracts says, as canonical records of each side. Their bodies are borrowed
 /// from the extracts: a clause sees the locations and the records, with their sides.
-#[derive(Debug, Drop)]
+#[derive(Drop)]
 pub struct Differences<'a> {
     pub(crate) left: &'a Extract,
     pub(crate) right: &'a Extract,

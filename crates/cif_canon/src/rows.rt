@@ -15,7 +15,7 @@ use cif_records::{AssocBody, AssocKey};
 use cif_weeks::Run;
 
 /// How the fields of a line are laid out.
-#[derive(Clone, Copy, Debug, PartialEq, Eq)]
+#[derive(Clone, Copy, PartialEq, Eq)]
 pub enum Format {
     /// With all their columns, and a space between them.
     Text,
@@ -24,7 +24,7 @@ pub enum Format {
 }
 
 /// How a table shows the columns of a field.
-#[derive(Clone, Copy, Debug, PartialEq, Eq)]
+#[derive(Clone, Copy, PartialEq, Eq)]
 pub enum Shape {
     /// Without the spaces at their end.
     Trimmed,

@@ -39,8 +39,7 @@ module _ (K : List ℕ → List (List ℕ) → List ℕ → Type 0) {R : Type 0}
     -- from what a call says of what is left
     pub given_so : (Next Q : List ℕ → Type 0) → IfSome (left remaining reader source) Next
         → ((bytes rest : List ℕ) → K bytes cs rest → Next rest → Q bytes) → IfSome start Q
-    given_so Next Q next f =
-        with_answer (λ bytes rest. K bytes cs rest) start (left remaining reader source) Next Q so_far.known next f
+    given_so Next Q next f = with_answer (λ bytes rest. K bytes cs rest) start (left remaining reader source) Next Q so_far.known next f
 
     module _ (reader' : ContentReader) (source' : Source R) where
       -- a content more

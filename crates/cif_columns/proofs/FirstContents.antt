@@ -246,10 +246,7 @@ overlong_decides most held begins none =
 
 -- what has no line feed among its first, and no more bytes
 pub short_undecided : (most : ℕ) (held : List ℕ) → length held < most → HaveNoFeed (take most held) → AreUndecided most held
-short_undecided most held short none = record {
-  no_feed = subst HaveNoFeed (take_all most held (omega (arith, short))) none;
-  short = short;
-}
+short_undecided most held short none = record { no_feed = subst HaveNoFeed (take_all most held (omega (arith, short))) none; short = short }
 
 -- ---- all that is left
 
@@ -259,8 +256,7 @@ kept_left (Some all) None keeps = absurd keeps
 kept_left (Some all) (Some same) keeps = ap Some keeps
 
 -- with so many bytes a content is overlong, whatever follows those that decide it
-most_kept : (most : Most) (held more : List ℕ) → ¬ AreUndecided (most_by most held) held
-    → most_by most (held ++ more) ≡ most_by most held
+most_kept : (most : Most) (held more : List ℕ) → ¬ AreUndecided (most_by most held) held → most_by most (held ++ more) ≡ most_by most held
 most_kept (Of most) held more decided = refl
 most_kept InFeed held more decided = ap (λ b. cond b 1002 82) (begins_kept held more decided)
 

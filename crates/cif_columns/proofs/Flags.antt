@@ -63,8 +63,7 @@ runs-and a b w = (
         runs-bit a w below (omega (arith, e, bit_at_and a b w, bit_at-lt a w, bit_at-lt b w)),
         runs-bit b w below (omega (arith, e, bit_at_and a b w, bit_at-lt a w, bit_at-lt b w)),
       ),
-  λ both. runs-bit (bit_and a b) w (below-runs a w both.0)
-      (omega (arith, bit-runs a w both.0, bit-runs b w both.1, bit_at_and a b w)),
+  λ both. runs-bit (bit_and a b) w (below-runs a w both.0) (omega (arith, bit-runs a w both.0, bit-runs b w both.1, bit_at_and a b w)),
 )
 
 -- the weekdays that the other set, whose bits are below 128, doesn't have
@@ -108,18 +107,14 @@ powers from to in_order within =
     let rising : 2 ^ from ≤ 2 ^ to = pow-le-pow_right (omega arith) in_order in
     omega (arith, rising, power from (omega (arith, in_order, within)), power to within)
 
-pub runs-between : (from to w : ℕ) → from ≤ to → to ≤ 7
-    → RunsOn (flags (1 * 2 ^ to % 256 - 1 * 2 ^ from % 256)) w ↔ ((from ≤ w) × (w < to))
+pub runs-between : (from to w : ℕ) → from ≤ to → to ≤ 7 → RunsOn (flags (1 * 2 ^ to % 256 - 1 * 2 ^ from % 256)) w ↔ ((from ≤ w) × (w < to))
 runs-between from to w in_order within =
     let same : 2 ^ to - 2 ^ from ≡ 1 * 2 ^ to % 256 - 1 * 2 ^ from % 256 =
     omega (arith, power from (omega (arith, in_order, within)), power to within) in
     subst (λ bits. RunsOn (flags bits) w ↔ ((from ≤ w) × (w < to))) same (between-runs from to w in_order within)
 
 pub has-runs : (bits w : ℕ) → w < 7 → IsTrue (nat_eq (bit_and (bits / 2 ^ w) 1) 1) ↔ RunsOn (flags bits) w
-has-runs bits w below = rw (shr_and_one bits w) (
-  λ e. flag_at bits w below ∙ ap Some e,
-  λ on. sets bits w (bit-runs bits w on),
-)
+has-runs bits w below = rw (shr_and_one bits w) (λ e. flag_at bits w below ∙ ap Some e, λ on. sets bits w (bit-runs bits w on))
 
 -- the flags of a number that was made of seven bits
 flag-bit : (bits w n : ℕ) (runs : Bool) → n ≡ cond runs 1 0 → bit_at bits w ≡ n → flag bits w ≡ runs
@@ -181,8 +176,7 @@ runs-only k w within =
     let same : 2 ^ k ≡ 1 * 2 ^ k % 256 = omega (arith, power k (omega arith)) in
     subst (λ bits. RunsOn (flags bits) w ↔ (w ≡ k)) same (
       is,
-      λ e. subst (RunsOn (flags (2 ^ k))) (sym e)
-          (runs-bit (2 ^ k) k within (bit_at-pow_same k)),
+      λ e. subst (RunsOn (flags (2 ^ k))) (sym e) (runs-bit (2 ^ k) k within (bit_at-pow_same k)),
     )
   where
     no_other : RunsOn (flags (2 ^ k)) w → (w ≢ k) → ⊥

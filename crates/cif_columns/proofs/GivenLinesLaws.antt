@@ -78,8 +78,7 @@ given_front bytes ls rest front unread parts so_far = (
   record {
     whole = so_far.whole;
     parts = refl;
-    ended = ends_before so_far.whole front unread
-        (subst (λ l. (so_far.whole ≡ []) ⊎ EndsLine so_far.whole l) parts so_far.ended);
+    ended = ends_before so_far.whole front unread (subst (λ l. (so_far.whole ≡ []) ⊎ EndsLine so_far.whole l) parts so_far.ended);
     contents = so_far.contents;
     are_lines = so_far.are_lines;
   },

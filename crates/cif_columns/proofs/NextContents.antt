@@ -21,8 +21,7 @@ module _ {R : Type 0} (remaining : R → Option (List ℕ)) (errors : R → Opti
       undecided = tt;
       device = read_on;
       ended = λ e. absurd (cc);
-      fresh = λ none.
-          ⊎_elim (λ same. absurd (omega (arith, fed_some _ _ _ _ passes, ap length (same ∙ none)))) (λ f. f) begun;
+      fresh = λ none. ⊎_elim (λ same. absurd (omega (arith, fed_some _ _ _ _ passes, ap length (same ∙ none)))) (λ f. f) begun;
     }
     decided_next some begun Overlong passes = record {
       answer = passed_left most (known_left remaining first from) (remaining (reader_of to)) (held_bytes old) (content_bytes new)

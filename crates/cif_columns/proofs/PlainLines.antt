@@ -122,8 +122,7 @@ fits-text columns value h s =
             arith,
             long,
             length-append (replicate s.before 32 ++ value) (replicate s.after 32),
-            length-append
-                (replicate s.before 32) value,
+            length-append (replicate s.before 32) value,
           ) in z),
       record { trimmed = s.trimmed; printable = part-printable (replicate s.before 32) value (replicate s.after 32) columns s.spelled h },
     )

@@ -31,8 +31,7 @@ module _ (t : PlainTest) (line : List ℕ) (wide : length line ≡ 80) (fits : P
       at (inl h) = inl (omega (arith, a, h.0), omega (arith, b, h.1))
       at (inr e) = inr (e ∙ c)
 
-  byte_at : (j byte : ℕ) → j < 80 → get_or t.least j 0 ≡ byte → get_or t.most j 0 ≡ byte → get_or t.also j 0 ≡ byte
-      → get_or line j 0 ≡ byte
+  byte_at : (j byte : ℕ) → j < 80 → get_or t.least j 0 ≡ byte → get_or t.most j 0 ≡ byte → get_or t.also j 0 ≡ byte → get_or line j 0 ≡ byte
   byte_at j byte lt a b c = at (fits.in_range j lt)
     where
       at : ((get_or t.least j 0 ≤ get_or line j 0) × (get_or line j 0 ≤ get_or t.most j 0)) ⊎ (get_or line j 0 ≡ get_or t.also j 0)

@@ -6,12 +6,7 @@ use Rattle.cif_columns.proofs.Names.{◌++◌, ◌∙◌, ◌≡◌}
 module _ {W : Type 0} (contents : W → Option (List ℕ)) (errors : W → Option ℕ) where
   -- nothing is written
   pub written_nothing : (s : Sink W) → sink_failed s ≡ false → HasWritten contents errors [] s s
-  written_nothing s going = record {
-    fresh = going;
-    going = going;
-    bytes = Appends-nil (contents (writer_of s));
-    no_error = refl;
-  }
+  written_nothing s going = record { fresh = going; going = going; bytes = Appends-nil (contents (writer_of s)); no_error = refl }
 
   -- one text and then another
   pub written_both : (a b : List ℕ) (s t u : Sink W) → HasWritten contents errors a s t → HasWritten contents errors b t u

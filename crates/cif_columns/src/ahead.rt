@@ -161,7 +161,7 @@ impl Ahead {
 }
 
 /// What stands first in the bytes that are left.
-#[derive(Clone, Copy, Debug)]
+#[derive(Clone, Copy)]
 pub enum NextContent {
     /// A content.
     Content,

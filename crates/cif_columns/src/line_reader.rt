@@ -19,7 +19,7 @@ enum Past {
 }
 
 /// What stood next, where a comment may.
-#[derive(Clone, Copy, Debug)]
+#[derive(Clone, Copy)]
 pub enum Content {
     /// A line.
     Line,

@@ -170,7 +170,7 @@ fn widened(columns: &[u8; LINE_WIDTH], count: u8) -> [u8; LINE_TEXT_WIDTH]
 }
 
 /// Lines of `Lines`, from one of them to the last. A clause sees the list of them.
-#[derive(Debug, Drop)]
+#[derive(Drop)]
 pub struct LineSlice<'a> {
     kept: &'a [u8],
 }
@@ -299,7 +299,7 @@ const ROOM: usize = 64;
 
 /// A line and others behind it, each with its line feed, so that they go out as they lie. A clause sees the
 /// text of the one and that of the others.
-#[derive(Debug, Drop)]
+#[derive(Drop)]
 pub struct LineTexts {
     texts: [[u8; LINE_TEXT_WIDTH]; ROOM],
     count: usize,

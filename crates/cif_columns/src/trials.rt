@@ -10,7 +10,7 @@ use std::io;
 use std::io::{Read, Write};
 
 /// What a `TrialReader` does after its bytes.
-#[derive(Clone, Copy, Debug)]
+#[derive(Clone, Copy)]
 pub enum End {
     /// It has no more bytes.
     Stop,

@@ -52,14 +52,7 @@ module _ (records : List Record) (p : Progress) where
   begun_here b (Some d) e is again c = begun_within b at.Basic p.schedules (Some (terms_of b)) (plain_line (detail_table d) ∷ []) c (
     b,
     refl,
-    record {
-      detail = d;
-      has = is;
-      runs = e;
-      opened = refl;
-      schedules = refl;
-      lines = (again, refl, tt);
-    },
+    record { detail = d; has = is; runs = e; opened = refl; schedules = refl; lines = (again, refl, tt) },
   )
 
   pub basic_step : (b : Basic) → IsKeepable (of.Basic b) → HasRead records p → may_stand p.place Bs ≡ true →

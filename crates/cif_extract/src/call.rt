@@ -55,7 +55,7 @@ impl fmt::Debug for Call {
 }
 
 /// The calls of a journey that are still to come. A clause sees the list of them.
-#[derive(Debug, Drop)]
+#[derive(Drop)]
 pub struct Calls<'a> {
     // The last of them is that of the terminus.
     lines: LineSlice<'a>,

@@ -12,7 +12,7 @@ use std::alloc::{AllocError, Global};
 use std::marker::Model;
 
 /// The records of an extract, in file order and with repeats.
-#[derive(Debug, Drop)]
+#[derive(Drop)]
 pub struct Extract {
     /// Its header, which has its window.
     pub header: Header,

@@ -60,7 +60,7 @@ pub fn write_schedule<W: WriteDevice>(
 }
 
 /// Writes schedules of one body. The lines that all of them have are made once. A clause sees the body.
-#[derive(Debug, Drop)]
+#[derive(Drop)]
 pub struct ScheduleWriter<'a> {
     body: &'a Body,
     // The line of a BS and those that follow it, as many as there is room for, and the others.

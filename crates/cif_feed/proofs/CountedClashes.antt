@@ -92,8 +92,7 @@ module _ {B : Type 0} (first to : ℕ) where
     are = λ d. (
       λ has. let is = (a.are d).0 has in
           record { from = is.from; before = is.before; clash = IsClash-same (R d) (S d) (same d) d is.clash },
-      λ is. (a.are d).1
-          (record { from = is.from; before = is.before; clash = IsClash-same (S d) (R d) (turned (same d)) d is.clash }),
+      λ is. (a.are d).1 (record { from = is.from; before = is.before; clash = IsClash-same (S d) (R d) (turned (same d)) d is.clash }),
     );
     clear = λ d from before lacks. IsClear-same (R d) (S d) (same d) d (a.clear d from before lacks);
   }
@@ -118,13 +117,11 @@ module _ {B : Type 0} (first to : ℕ) where
           ((m.are d).0 has),
       λ is. ⊎_elim
           (λ holds. let e = same_on d holds in (m.are d).1 (inr (
-            (b.are d).1
-                (record { from = is.from; before = is.before; clash = IsClash-same (R d) (on d) (turned e) d is.clash }),
+            (b.are d).1 (record { from = is.from; before = is.before; clash = IsClash-same (R d) (on d) (turned e) d is.clash }),
             holds,
           )))
           (λ fails. let e = same_off d fails in (m.are d).1 (inl (
-            (a.are d).1
-                (record { from = is.from; before = is.before; clash = IsClash-same (R d) (off d) (turned e) d is.clash }),
+            (a.are d).1 (record { from = is.from; before = is.before; clash = IsClash-same (R d) (off d) (turned e) d is.clash }),
             fails,
           )))
           (decided d),
@@ -142,11 +139,7 @@ pub code-here : {A B : Type 0} (published : A → PublishedTerms B) (xs : List A
     → position < length xs → entry ≡ get_or xs position entry → IsTrue b ↔ ((published entry).code ≡ Some code)
     → IsTrue b ↔ HasCodeAt published xs code position
 code-here published xs code position entry b below is decided = (
-  λ e. record {
-    entry = entry;
-    at = slice_get-get_or xs position entry below ∙ ap (λ x. Some x) (sym is);
-    of_code = decided.0 e;
-  },
+  λ e. record { entry = entry; at = slice_get-get_or xs position entry below ∙ ap (λ x. Some x) (sym is); of_code = decided.0 e },
   λ h. decided.1 (ap (λ x. (published x).code) (is ∙ get_or_from_slice_get xs position h.entry entry h.at) ∙ h.of_code),
 )
 
@@ -189,33 +182,32 @@ holiday-decided h code d = in-list d (dates_of h code).days.items
 -- ---- the members that count
 
 module _ {A B : Type 0} (h : Holidays) (published : A → PublishedTerms B) (xs : List A) where
-  -- where no code matters, all do
-  chosen-counts : (terms : A → Terms B) → ((x : A) → (published x).terms ≡ terms x) → (members : List ℕ) (d : ℕ)
-      → SameRecords (IsChosen (map terms xs) members) (CountsAmong h published xs members [] d)
-  chosen-counts terms own members d = record {
-    same = λ r. (
-      λ c. let (x, at, is) = at-mapped terms xs c.position r c.at in record {
-        position = c.position;
-        member = c.member;
-        entry = x;
-        at = at;
-        terms = own x ∙ is;
-        no_holiday = λ code has. absurd (Contains-none code has);
-      },
-      λ m. record {
-        position = m.position;
-        member = m.member;
-        at = to-mapped terms xs m.position m.entry m.at ∙ ap (λ (t : Terms B). Some t) (sym (own m.entry) ∙ m.terms);
-      },
-    );
-  }
+  -- Where no entry has one of the codes, all do.
+  module _ (codes : List HolidayCode) (none : (x : A) (code : HolidayCode) → Contains codes code → (published x).code ≡ Some code → ⊥)
+      (terms : A → Terms B) (own : (x : A) → (published x).terms ≡ terms x) (members : List ℕ) where
+    chosen-counts : (d : ℕ) → SameRecords (IsChosen (map terms xs) members) (CountsAmong h published xs members codes d)
+    chosen-counts d = record {
+      same = λ r. (
+        λ c. let (x, at, is) = at-mapped terms xs c.position r c.at in record {
+          position = c.position;
+          member = c.member;
+          entry = x;
+          at = at;
+          terms = own x ∙ is;
+          no_holiday = λ code has of_code. absurd (none x code has of_code);
+        },
+        λ m. record {
+          position = m.position;
+          member = m.member;
+          at = to-mapped terms xs m.position m.entry m.at ∙ ap (λ (t : Terms B). Some t) (sym (own m.entry) ∙ m.terms);
+        },
+      );
+    }
 
-  pub chosen-dates : (terms : A → Terms B) → ((x : A) → (published x).terms ≡ terms x) → (members : List ℕ) (first to : ℕ) (days : List ℕ)
-      → AreClashDates (IsChosen (map terms xs) members) first to days
-      → AreClashDatesOn (CountsAmong h published xs members []) first to days
-  chosen-dates terms own members first to days a =
-      on-same first to (λ d. IsChosen (map terms xs) members) (CountsAmong h published xs members [])
-      (chosen-counts terms own members) days (on-each first to (IsChosen (map terms xs) members) days a)
+    pub chosen-dates : (first to : ℕ) (days : List ℕ) → AreClashDates (IsChosen (map terms xs) members) first to days
+        → AreClashDatesOn (CountsAmong h published xs members codes) first to days
+    chosen-dates first to days a = on-same first to (λ d. IsChosen (map terms xs) members) (CountsAmong h published xs members codes)
+        chosen-counts days (on-each first to (IsChosen (map terms xs) members) days a)
 
   module _ (code : HolidayCode) (others : List HolidayCode) (members : List ℕ) where
     abbrev More : ℕ → Records B
@@ -358,8 +350,7 @@ module _ {A K B : Type 0} (h : Holidays) (key : A → K) (terms : A → Terms B)
         λ count. let (x, has, of_k, is, free) = to-entry d r count in
             let (i, at) = at-contains xs x has in record {
               position = i;
-              member = p.all i (terms x) (to-mapped (λ (y : A). (key y, terms y)) xs i x at
-                  ∙ ap (λ (j : K). Some (j, terms x)) of_k);
+              member = p.all i (terms x) (to-mapped (λ (y : A). (key y, terms y)) xs i x at ∙ ap (λ (j : K). Some (j, terms x)) of_k);
               entry = x;
               at = at;
               terms = is;

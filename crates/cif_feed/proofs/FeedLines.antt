@@ -190,8 +190,7 @@ module _ (line : List ℕ) where
   association_owes (Some Deleted) =
       record { named = λ a p. p.0.0; fine = cut_fine; one = cut_one; fits = cut_fits; closed = λ a p ends. p.1.last }
 
-  pub association_closed : (t : Option Transaction) (a : Association) → SpellsAssociationBy t line a
-      → IsClosedAt (is_open 22 line) a.last
+  pub association_closed : (t : Option Transaction) (a : Association) → SpellsAssociationBy t line a → IsClosedAt (is_open 22 line) a.last
   association_closed t = (association_owes t).closed
 
   module _ (allowed : HolidayCodes) where
@@ -280,8 +279,7 @@ module _ (line : List ℕ) where
         (ap length p.1.days))
 
     -- any BS
-    basic_owes : (t : Option Transaction)
-        → OwesBasic (basic_refusal_by allowed t line) (is_open 16 line) (SpellsBasicBy allowed t line)
+    basic_owes : (t : Option Transaction) → OwesBasic (basic_refusal_by allowed t line) (is_open 16 line) (SpellsBasicBy allowed t line)
     basic_owes None = owes_nothing line (codes "BS") _ _ _ _
     basic_owes (Some New) = basic_put_owes New
     basic_owes (Some Revised) = basic_put_owes Revised
@@ -300,8 +298,7 @@ module _ (line : List ℕ) where
     basic_cancels (Some Revised) b p = letter_cancels line b.letter (basic_parts Revised b p).back.1.0
     basic_cancels (Some Deleted) b p = ap (λ stp. not (has_body stp)) (sym p.1.letter)
 
-    pub basic_closed : (t : Option Transaction) (b : Basic) → SpellsBasicBy allowed t line b
-        → IsClosedAt (is_open 16 line) b.last
+    pub basic_closed : (t : Option Transaction) (b : Basic) → SpellsBasicBy allowed t line b → IsClosedAt (is_open 16 line) b.last
     basic_closed t = (basic_owes t).closed
 
 -- ---- any line
@@ -349,8 +346,7 @@ module _ (feed : Feed) (allowed : HolidayCodes) (line : List ℕ) where
       at : (r q : Record) → kind_of r ≡ kind_of q → Spells r → Spells q → r ≡ q
       at (of.Header h) (of.Header k) e m n = ap of.Header (headers.one_header line (indicator_of feed) h k m n)
       at (of.Tiploc t) (of.Tiploc u) e m n = ap of.Tiploc (tiploc_one feed (kind_in line) t u m n)
-      at (of.Association a) (of.Association b) e m n =
-          ap of.Association ((association_owes line (transaction_at feed line)).one a b m n)
+      at (of.Association a) (of.Association b) e m n = ap of.Association ((association_owes line (transaction_at feed line)).one a b m n)
       at (of.Basic a) (of.Basic b) e m n = ap of.Basic ((basic_owes line allowed (transaction_at feed line)).one a b m n)
       at (of.Header h) _ e m n = absurd (cc)
       at (of.Tiploc t) _ e m n = absurd (cc)

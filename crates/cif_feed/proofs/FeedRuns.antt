@@ -287,8 +287,7 @@ module _ (feed : Feed) (allowed : HolidayCodes) (max : ℕ) {R : Type 0} (remain
         at contents is are within = (
           rw is (record {
             are_contents = are;
-            notes_stand = λ k below note.
-                note_stands feed allowed max (take k cs) (slice_index_or cs k []) (fine.fine k below) note;
+            notes_stand = λ k below note. note_stands feed allowed max (take k cs) (slice_index_or cs k []) (fine.fine k below) note;
             says = held;
           }),
           rw is within,

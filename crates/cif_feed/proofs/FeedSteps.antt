@@ -307,8 +307,7 @@ module _ (feed : Feed) (allowed : HolidayCodes) (cs : List (List ℕ)) (c : List
   lines_more is = one_more is_record_line ∙ ap (λ b. filter is_record_line cs ++ one_if b c) is
 
   pub lines_same : is_record_line c ≡ false → record_lines (cs ++ c ∷ []) ≡ record_lines cs
-  lines_same is =
-      one_more is_record_line ∙ ap (λ b. filter is_record_line cs ++ one_if b c) is ∙ append-nil (filter is_record_line cs)
+  lines_same is = one_more is_record_line ∙ ap (λ b. filter is_record_line cs ++ one_if b c) is ∙ append-nil (filter is_record_line cs)
 
   is_line : is_comment c ≡ false → is_note c ≡ false → is_record_line c ≡ true
   is_line no_comment no_note = ap (λ b. not b && not (is_note c)) no_comment ∙ ap not no_note
@@ -414,7 +413,6 @@ module _ (feed : Feed) (allowed : HolidayCodes) (cs : List (List ℕ)) (c : List
             ∙ sym (ap (λ k. with_line (mark_parts old.marks) allowed k (length cs + 1, c)) kind
             ∙ with_nothing (mark_parts old.marks) (length cs + 1, c));
         basic = ap (λ (r : FeedReading). r.has_basic) is ∙ sym (or_false old.has_basic (is_basic (kind_in c)) (ap is_basic kind));
-        trailer = ap (λ (r : FeedReading). r.has_trailer) is
-            ∙ sym (or_false old.has_trailer (is_trailer (kind_in c)) (ap is_trailer kind));
+        trailer = ap (λ (r : FeedReading). r.has_trailer) is ∙ sym (or_false old.has_trailer (is_trailer (kind_in c)) (ap is_trailer kind));
       }) own in
       record { is_line = plain.is_line; no_comment = no_comment; stands = both.0; taken = both.1 }

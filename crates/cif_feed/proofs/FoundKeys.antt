@@ -104,12 +104,10 @@ module _ {K B : Type 0} (cmp : K → K → Ordering) (es : List (K × Terms B)) 
     later = later-less cmp total es rest (AnyHasKey es rest) s.passed run.key leads n run.count
 
     passed-on : HasPassed cmp es (drop n rest) (AnyHasKey es (drop n rest))
-    passed-on =
-        passed-more cmp total es rest (AnyHasKey es rest) s.passed run.key leads n run.count (AnyHasKey es (drop n rest)) left later
+    passed-on = passed-more cmp total es rest (AnyHasKey es rest) s.passed run.key leads n run.count (AnyHasKey es (drop n rest)) left later
 
     gone : (k : K) → (AnyHasKey es (drop n rest) k → ⊥) → (k ≡ run.key → ⊥) → AnyHasKey es rest k → ⊥
-    gone k none apart any =
-        ⊎_elim apart none (key-or-later cmp total es rest (AnyHasKey es rest) s.passed run.key leads n run.count k any)
+    gone k none apart any = ⊎_elim apart none (key-or-later cmp total es rest (AnyHasKey es rest) s.passed run.key leads n run.count k any)
 
     is_key : (k : K) → (k ≡ run.key) ⊎ (k ≡ run.key → ⊥)
     is_key k = decided cmp total same k run.key (cmp k run.key) refl
@@ -204,11 +202,7 @@ module _ {K B : Type 0} (cmp : K → K → Ordering) (es : List (K × Terms B)) 
         let s = a.searched in record {
           keys = a.keys;
           days = a.days;
-          are = record {
-            rising = s.keys_rising;
-            each = s.each;
-            are = λ k. s.done k (λ any. Contains-none any.position any.member);
-          };
+          are = record { rising = s.keys_rising; each = s.each; are = λ k. s.done k (λ any. Contains-none any.position any.member) };
           added = a.added;
           reads = a.reads;
         }

@@ -84,7 +84,4 @@ rising-inserted xs ys i day false is up within low high = rw is up
 
 -- dates of which one is named again
 pub dates-there : (xs : List ℕ) (day : ℕ) → Contains xs day → (d : ℕ) → Contains xs d ↔ (Contains xs d ⊎ (d ≡ day))
-dates-there xs day there d = (
-  λ has. inl has,
-  λ has. ⊎_elim (λ old. old) (λ same. subst (λ (n : ℕ). Contains xs n) (sym same) there) has,
-)
+dates-there xs day there d = (λ has. inl has, λ has. ⊎_elim (λ old. old) (λ same. subst (λ (n : ℕ). Contains xs n) (sym same) there) has)

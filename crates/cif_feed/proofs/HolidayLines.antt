@@ -266,9 +266,7 @@ some-push P ls line = (
       (λ early. inl (some.0, early, some.2))
       (λ last. inr (subst P (sym last) some.2))
       (Contains-push_cases ls line some.0 some.1),
-  λ h. ⊎_elim
-      (λ some. (some.0, Contains-append_left ls (line ∷ []) some.0 some.1, some.2))
-      (λ here. (line, Contains-push ls line, here)) h,
+  λ h. ⊎_elim (λ some. (some.0, Contains-append_left ls (line ∷ []) some.0 some.1, some.2)) (λ here. (line, Contains-push ls line, here)) h,
 )
 
 through : {A B C D : Type 0} → A ↔ (B ⊎ C) → B ↔ D → A ↔ (D ⊎ C)

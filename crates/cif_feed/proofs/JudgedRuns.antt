@@ -82,8 +82,7 @@ module _ (max : ℕ) (bytes : List ℕ) (x : ExtractParts) (spells : BytesSpellW
 
   pub judged_as : (after : Unread) (result : Result Judged Fault) → IfOk result (IsJudgedAs max bytes after)
       → IfErr result (IsJudgedFault max bytes after) → IsReadAsJudged x result
-  judged_as after (Ok (judged.Extract extract)) ok err =
-      one_spelled bytes (extract_parts extract) x ok.spell.spell spells.spell
+  judged_as after (Ok (judged.Extract extract)) ok err = one_spelled bytes (extract_parts extract) x ok.spell.spell spells.spell
   judged_as after (Ok (judged.Reasons reported)) ok err =
       absurd (none_is (judged_contents bytes) (rw all_judged none_of_spelled) ok.why ok.some)
   judged_as after (Err (fault.Refused line refusal.TooManyLines)) ok err =

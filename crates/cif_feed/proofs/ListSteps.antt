@@ -39,8 +39,7 @@ filter-map p f (x ∷ xs) = at (p (f x)) (filter-map p f xs)
 
 module _ {A : Type 0} where
   -- others behind them
-  pub enumerate_append : (n : ℕ) (xs ys : List A) → enumerate_from n (xs ++ ys)
-      ≡ enumerate_from n xs ++ enumerate_from (n + length xs) ys
+  pub enumerate_append : (n : ℕ) (xs ys : List A) → enumerate_from n (xs ++ ys) ≡ enumerate_from n xs ++ enumerate_from (n + length xs) ys
   enumerate_append n [] ys = ap (λ (k : ℕ). enumerate_from k ys) (omega arith)
   enumerate_append n (x ∷ xs) ys =
       ap (λ l. (n, x) ∷ l) (enumerate_append (n + 1) xs ys

@@ -423,12 +423,7 @@ module _ {K B : Type 0} (Stops : ℕ → Type 0) (k : K) (r : Terms B) where
     pub begins : MayBegin Stops r first
 
   pub cut-nothing : (old : List (K × Terms B)) → r.first ≤ r.last → IsCutUpTo old old r.first
-  cut-nothing old up = record {
-    own = [];
-    are = sym (append-nil old);
-    so_far = parts-none Stops r;
-    begins = may-begin Stops r up;
-  }
+  cut-nothing old up = record { own = []; are = sym (append-nil old); so_far = parts-none Stops r; begins = may-begin Stops r up }
 
   module _ (old now : List (K × Terms B)) (first : ℕ) (cut : IsCutUpTo old now first) (new : List (K × Terms B)) where
     -- the part up to the record's last day ends the list

@@ -41,13 +41,7 @@ module _ {R : Type 0} (remaining : R → Option (List ℕ)) (errors : R → Opti
   as-feed s t h call = (
     t,
     refl,
-    record {
-      ok = call.ok;
-      fault = of_any _ _ (λ bytes. tt);
-      answers = tt;
-      source = call.source;
-      end = call.end;
-    },
+    record { ok = call.ok; fault = of_any _ _ (λ bytes. tt); answers = tt; source = call.source; end = call.end },
   )
 
   pub fault-as-feed : (s t : Source R) (hf : HolidayFault) (f : FeedFault) → f ≡ of_holiday_fault hf →
@@ -172,5 +166,4 @@ module _ {R : Type 0} (remaining : R → Option (List ℕ)) (errors : R → Opti
   pub prepared-read : (result : Result Dropped FeedFault) →
       IsResultOf remaining errors (preparing h MAX_LINES kept) source source_new result →
       IsPreparedInTurn remaining errors holidays after source source_new result
-  prepared-read result call =
-      inr (h, kept, subst (λ x. AreHolidaysRead remaining errors holidays after (Ok x)) (sym same) at-first, call)
+  prepared-read result call = inr (h, kept, subst (λ x. AreHolidaysRead remaining errors holidays after (Ok x)) (sym same) at-first, call)

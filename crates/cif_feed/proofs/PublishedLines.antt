@@ -188,8 +188,7 @@ module _ (allowed : HolidayCodes) where
 
     association_fits : (open_end : Bool) → AllFit (association_rows open_end)
     association_fits false = fits
-    association_fits true =
-        (fits.0, (fits.1.0, (fits.1.1.0, (fits.1.1.1.0, (fits.1.1.1.1.0, (nines_fit, fits.1.1.1.1.1.1))))))
+    association_fits true = (fits.0, (fits.1.0, (fits.1.1.0, (fits.1.1.1.0, (fits.1.1.1.1.0, (nines_fit, fits.1.1.1.1.1.1))))))
 
     -- the line spells it, with its end
     abbrev pub IsAssociationWritten : List ℕ → Type 0
@@ -272,8 +271,7 @@ module _ (allowed : HolidayCodes) where
 
   -- ---- what they say: no end is open, and there is no code
 
-  own_agrees : (is : Option Kind → Bool) → IsTest is → (c : List ℕ) (r : Record) → SpellsRecord c r
-      → is (kind_in c) ≡ is (Some (kind_of r))
+  own_agrees : (is : Option Kind → Bool) → IsTest is → (c : List ℕ) (r : Record) → SpellsRecord c r → is (kind_in c) ≡ is (Some (kind_of r))
   own_agrees is test c r s = ap is (kind_there c r s)
 
   own_association : (line : ℕ × List ℕ) (a : Association) → SpellsAssociation SpellsRecord line a

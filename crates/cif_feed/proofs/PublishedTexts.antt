@@ -230,8 +230,7 @@ may_any ss = λ k d below code is. any code
 said_all : {X M Z : Type 0} (P : X → M → Z → Type 0) (f : Z → X) → ((x : X) (m : M) (z : Z) → P x m z → f z ≡ x) → (xs : List X)
     (ms : List M) (zs : List Z) → AreTriples P xs ms zs → map f zs ≡ xs
 said_all P f one [] [] [] t = refl
-said_all P f one (x ∷ xs) (m ∷ ms) (z ∷ zs) t =
-    ap (λ y. y ∷ map f zs) (one x m z t.0) ∙ ap (λ ys. x ∷ ys) (said_all P f one xs ms zs t.1)
+said_all P f one (x ∷ xs) (m ∷ ms) (z ∷ zs) t = ap (λ y. y ∷ map f zs) (one x m z t.0) ∙ ap (λ ys. x ∷ ys) (said_all P f one xs ms zs t.1)
 said_all P f one _ _ _ t = absurd t
 
 -- a published extract says the records of its lines
@@ -245,5 +244,4 @@ said_profile lines p s =
 
 pub said_fits : (allowed : HolidayCodes) (cs : List (List ℕ)) (p : PublishedParts) → SpellPublished allowed cs p
     → FitsColumns (of_profile p)
-said_fits allowed cs p s =
-    subst FitsColumns (sym (said_profile s.lines p s.says)) (feed_fits Full allowed cs s.lines s.spelled)
+said_fits allowed cs p s = subst FitsColumns (sym (said_profile s.lines p s.says)) (feed_fits Full allowed cs s.lines s.spelled)

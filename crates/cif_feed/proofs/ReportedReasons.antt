@@ -114,8 +114,7 @@ reasons_of_more cs c reason is = reasons_more cs c ∙ ap (λ r. reasons_of cs +
 pub some_has_more : (cs : List (List ℕ)) (c : List ℕ) → SomeHasReason cs → SomeHasReason (cs ++ c ∷ [])
 some_has_more cs c (why, there) = (
   why,
-  subst (λ l. Contains l (Some why)) (sym (reasons_more cs c))
-      (Contains-append_left (reasons_of cs) (own_reason c ∷ []) (Some why) there),
+  subst (λ l. Contains l (Some why)) (sym (reasons_more cs c)) (Contains-append_left (reasons_of cs) (own_reason c ∷ []) (Some why) there),
 )
 
 pub some_has_here : (cs : List (List ℕ)) (c : List ℕ) (why : Refusal) → own_reason c ≡ Some why → SomeHasReason (cs ++ c ∷ [])

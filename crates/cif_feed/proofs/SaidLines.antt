@@ -271,8 +271,7 @@ module _ (Spells : List ℕ → Record → Type 0) where
   take_line : (ls : List (ℕ × List ℕ)) (b : Basic) (rest : List Basic) (s : Schedule) (ss : List Schedule)
       → HasTerms b s → (AllFit (detail_rows b.detail) → b.detail ≡ option_map detail_of s.body) → ArePairs Basics ls (b ∷ rest)
       → ((ls : List (ℕ × List ℕ)) → ArePairs Basics ls rest → ArePairs Schedules ls ss) → ArePairs Schedules ls (s ∷ ss)
-  take_line (l ∷ ls) b rest s ss terms detail p more =
-      (record { basic = b; spells = p.0; terms = terms; detail = detail }, more ls p.1)
+  take_line (l ∷ ls) b rest s ss terms detail p more = (record { basic = b; spells = p.0; terms = terms; detail = detail }, more ls p.1)
   take_line [] b rest s ss terms detail p more = absurd p
 
   schedule_lines : (ls : List (ℕ × List ℕ)) (groups : List Record) (ss : List Schedule)

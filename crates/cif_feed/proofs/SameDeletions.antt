@@ -63,8 +63,7 @@ module _ (l q : List ℕ) where
       pub one_association_deletion : (a b : Action AssociationKey PublishedAssociation)
           → AllStandIn l (action_rows published_association_rows rows a) → AllStandIn q (action_rows published_association_rows rows b)
           → transaction_of a ≡ transaction.Deleted → a ≡ b
-      one_association_deletion =
-          one_deletion published_association_rows rows (λ t r s. s.1.0) (λ k s. s.1.0) (agree 2 0 1 18 front) one_key
+      one_association_deletion = one_deletion published_association_rows rows (λ t r s. s.1.0) (λ k s. s.1.0) (agree 2 0 1 18 front) one_key
 
   module _ (front : columns 3 15 l ≡ columns 3 15 q) (back : columns 80 80 l ≡ columns 80 80 q) where
     abbrev basic_rows : ScheduleKey → List Row

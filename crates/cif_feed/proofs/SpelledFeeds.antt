@@ -172,10 +172,7 @@ module _ (allowed : HolidayCodes) (max : ℕ) where
       → Makes (reading_feed Full allowed max) (reading_published allowed max) lines x
   makes-published lines x says counts passed = record {
     answer = λ bytes s. record {
-      spelled = record {
-        spell = record { lines = feed_parts lines; spelled = s.spell; says = says };
-        within = s.within;
-      };
+      spelled = record { spell = record { lines = feed_parts lines; spelled = s.spell; says = says }; within = s.within };
       counts = counts ∙ ap (λ (m : MarkParts). m.counts) s.spell.says.marks;
       passed = passed ∙ ap (λ (m : MarkParts). m.passed) s.spell.says.marks;
     };

@@ -39,8 +39,7 @@ last-more p xs x = last-append p xs (x ∷ [])
 -- of three lists
 pub reported-three : (xs ys zs : List RefusedLine) → reported_once 0 xs ++ (reported_once (last_line 0 xs) ys
     ++ reported_once (last_line (last_line 0 xs) ys) zs) ≡ reported_once 0 (xs ++ (ys ++ zs))
-reported-three xs ys zs =
-    sym (reported-append 0 xs (ys ++ zs) ∙ ap (λ l. reported_once 0 xs ++ l) (reported-append (last_line 0 xs) ys zs))
+reported-three xs ys zs = sym (reported-append 0 xs (ys ++ zs) ∙ ap (λ l. reported_once 0 xs ++ l) (reported-append (last_line 0 xs) ys zs))
 
 -- ---- one update
 

@@ -191,11 +191,9 @@ module _ {R W A : Type 0} (remaining : R → Option (List ℕ)) (errors : R → 
   call = subst (λ may. IsResultOf remaining errors (reading_published may MAX_LINES) full full_new (Ok extract)) all read
 
   published : (bytes : List ℕ) → remaining (reader_of full) ≡ Some bytes → IsPublishedOf all_codes MAX_LINES bytes extract
-  published bytes known =
-      answer-of (reading_published all_codes MAX_LINES) remaining errors full full_new bytes known extract call
+  published bytes known = answer-of (reading_published all_codes MAX_LINES) remaining errors full full_new bytes known extract call
 
-  spelled : (bytes : List ℕ) → remaining (reader_of full) ≡ Some bytes →
-      BytesSpellPublished all_codes MAX_LINES bytes (published_parts x)
+  spelled : (bytes : List ℕ) → remaining (reader_of full) ≡ Some bytes → BytesSpellPublished all_codes MAX_LINES bytes (published_parts x)
   spelled bytes known = subst (λ e. BytesSpellPublished all_codes MAX_LINES bytes (published_parts e)) (sym same)
       (let is = published bytes known in is.spelled)
 
@@ -207,8 +205,7 @@ module _ {R W A : Type 0} (remaining : R → Option (List ℕ)) (errors : R → 
     these,
     done,
     call,
-    subst
-        (λ e. AreDoneInTurn remaining errors lenient (published_parts e) new updates updates_new these done) same turn,
+    subst (λ e. AreDoneInTurn remaining errors lenient (published_parts e) new updates updates_new these done) same turn,
     ends,
   )
 
@@ -234,13 +231,7 @@ module _ {R W A : Type 0} (remaining : R → Option (List ℕ)) (errors : R → 
         let both = done-in-turn remaining errors lenient updates updates_new (published_parts x) new these given turn are in
         let is = published bytes known in
         record {
-          written = record {
-            old = published_parts x;
-            spelled = spelled bytes known;
-            new = new;
-            done = both.0;
-            text = refl;
-          };
+          written = record { old = published_parts x; spelled = spelled bytes known; new = new; done = both.0; text = refl };
           as_prepared = ap (λ c. not (have_marks c) && list_any (λ (u : DoneUpdate). have_marks u.outcome.counts) these) is.counts
               ∙ ap (λ b. not (have_marks (counts_in bytes)) && b) both.1;
         }

@@ -28,8 +28,7 @@ module _ (h : Holidays) (drops : Bool) (max : ℕ) where
     prepared = x;
     is = is;
     text_is = refl;
-    spells = text-spells x
-        (prepared_fits h drops p x (said_fits (codes_named h) (contents_of bytes) p spelled.spell) is.prepared);
+    spells = text-spells x (prepared_fits h drops p x (said_fits (codes_named h) (contents_of bytes) p spelled.spell) is.prepared);
   }
 
   module _ {W : Type 0} (contents : W → Option (List ℕ)) (errors : W → Option ℕ) (old new : Sink W) (start : Option (List ℕ))

@@ -1,57 +1,56 @@
-//! The clash dates of published entries, which don't count on the holidays of their codes.
-ghost use Rattle.std.specs.Prelude.{◌≡◌, ◌<◌, ◌+◌, ◌⊎◌, ◌↔◌, ℕ, All, Contains, IfOk, IsTrue, length};
-ghost use Rattle.cif_feed.specs.Holidays.{IsHoliday};
+//! The clash dates of published schedules, which don't count on the holidays of their codes.
+ghost use Rattle.std.specs.Prelude.{◌≡◌, ◌<◌, ◌+◌, ◌⊎◌, ◌↔◌, ℕ, All, Contains, IfOk, IsTrue, Some, length};
+ghost use Rattle.cif_feed.specs.{Holidays.IsHoliday, PublishedParts.published_schedule_terms};
 ghost use Rattle.cif_feed.specs.Steps.Counting.{AreClashDatesOn, AreMerged, CountsAmong, HasCodeAt, code_list};
 
-use crate::published_entry::{PublishedEntry, is_of};
-use crate::{HolidayCode, Holidays};
+use crate::{HolidayCode, Holidays, PublishedSchedule};
 use cif_calendar::{Window, clash_dates};
 use cif_columns::Day;
 use std::alloc::{AllocError, Global};
 
-/// The dates of the window on which two winners have different bodies, by the entries at `members`, each of which
+/// The dates of the window on which two winners have different bodies, by the schedules at `members`, each of which
 /// doesn't count on the holidays of its code. They rise.
 ///
-/// The time is that of `cif_calendar::clash_dates`: no entry is cut at its holidays, of which there may be many.
-pub(crate) fn counted_clash_dates<E: PublishedEntry>(
+/// The time is that of `cif_calendar::clash_dates`: no schedule is cut at its holidays, of which there may be many.
+pub(crate) fn counted_clash_dates(
     alloc: Global,
-    entries: &[E],
+    schedules: &[PublishedSchedule],
     members: &[usize],
     holidays: &Holidays,
     window: &Window,
 ) -> Result<Vec<Day>, AllocError>
-    requires { All (λ i. i < length entries.now) members.now }
+    requires { All (λ i. i < length schedules.now) members.now }
     ensures { IfOk result (λ days. AreClashDatesOn
-        (CountsAmong holidays.now E.published entries.now members.now code_list)
+        (CountsAmong holidays.now published_schedule_terms schedules.now members.now code_list)
         window.now.first (window.now.last + 1) days.items) }
 {
     let codes = [HolidayCode::X, HolidayCode::E, HolidayCode::G];
-    clash_dates_by(alloc, entries, members, &codes, holidays, window)
+    clash_dates_by(alloc, schedules, members, &codes, holidays, window)
 }
 
 /// The dates of the window on which winners clash, where the holidays of these codes alone matter.
-fn clash_dates_by<E: PublishedEntry>(
+fn clash_dates_by(
     alloc: Global,
-    entries: &[E],
+    schedules: &[PublishedSchedule],
     members: &[usize],
     codes: &[HolidayCode],
     holidays: &Holidays,
     window: &Window,
 ) -> Result<Vec<Day>, AllocError>
-    requires { All (λ i. i < length entries.now) members.now }
+    requires { All (λ i. i < length schedules.now) members.now }
     ensures { IfOk result (λ days. AreClashDatesOn
-        (CountsAmong holidays.now E.published entries.now members.now codes.now)
+        (CountsAmong holidays.now published_schedule_terms schedules.now members.now codes.now)
         window.now.first (window.now.last + 1) days.items) }
 {
     let [code, others @ ..] = codes else {
-        return clash_dates(alloc, entries, members, window);
+        return clash_dates(alloc, schedules, members, window);
     };
-    let days = clash_dates_by(alloc, entries, members, others, holidays, window)?;
-    if !have_code(entries, members, *code) {
+    let days = clash_dates_by(alloc, schedules, members, others, holidays, window)?;
+    if !have_code(schedules, members, *code) {
         return Ok(days);
     }
-    let rest = without_code(alloc, entries, members, *code)?;
-    let on_holidays = clash_dates_by(alloc, entries, rest.as_slice(), others, holidays, window)?;
+    let rest = without_code(alloc, schedules, members, *code)?;
+    let on_holidays = clash_dates_by(alloc, schedules, rest.as_slice(), others, holidays, window)?;
     merged(
         alloc,
         days.as_slice(),
@@ -61,34 +60,41 @@ fn clash_dates_by<E: PublishedEntry>(
     )
 }
 
-/// Whether an entry at one of the positions has the code.
-fn have_code<E: PublishedEntry>(entries: &[E], members: &[usize], code: HolidayCode) -> bool
-    requires { All (λ i. i < length entries.now) members.now }
-    ensures { (i : ℕ) → Contains members.now i → HasCodeAt E.published entries.now code i → IsTrue result }
+/// Whether the schedule has the code.
+fn is_of(schedule: &PublishedSchedule, code: HolidayCode) -> bool
+    ensures { IsTrue result ↔ (schedule.now.code ≡ Some code) }
+{
+    schedule.code == Some(code)
+}
+
+/// Whether a schedule at one of the positions has the code.
+fn have_code(schedules: &[PublishedSchedule], members: &[usize], code: HolidayCode) -> bool
+    requires { All (λ i. i < length schedules.now) members.now }
+    ensures { (i : ℕ) → Contains members.now i → HasCodeAt published_schedule_terms schedules.now code i → IsTrue result }
 {
     for position in members {
-        if is_of(&entries[*position], code) {
+        if is_of(&schedules[*position], code) {
             return true;
         }
     }
     false
 }
 
-/// The positions whose entries don't have the code.
-fn without_code<E: PublishedEntry>(
+/// The positions whose schedules don't have the code.
+fn without_code(
     alloc: Global,
-    entries: &[E],
+    schedules: &[PublishedSchedule],
     members: &[usize],
     code: HolidayCode,
 ) -> Result<Vec<usize>, AllocError>
-    requires { All (λ i. i < length entries.now) members.now }
-    ensures within { IfOk result (λ rest. All (λ i. i < length entries.now) rest.items) }
+    requires { All (λ i. i < length schedules.now) members.now }
+    ensures within { IfOk result (λ rest. All (λ i. i < length schedules.now) rest.items) }
     ensures rest { IfOk result (λ rest. (i : ℕ) → Contains rest.items i
-        ↔ (Contains members.now i × (¬ HasCodeAt E.published entries.now code i))) }
+        ↔ (Contains members.now i × (¬ HasCodeAt published_schedule_terms schedules.now code i))) }
 {
     let mut rest = Vec::new(alloc);
     for position in members {
-        if !is_of(&entries[*position], code) {
+        if !is_of(&schedules[*position], code) {
             rest.push(*position)?;
         }
     }

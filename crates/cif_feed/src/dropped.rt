@@ -5,7 +5,6 @@ ghost use Rattle.cif_feed.specs.Dropped.{AreClashDays, dropped_text};
 ghost use Rattle.cif_feed.specs.Steps.Dropping.{AreFound, IsReported, published_by};
 
 use crate::Holidays;
-use crate::counting::counted_clash_dates;
 use crate::prepare::ClashDates;
 use crate::prepared_record::RisingDays;
 use crate::published_entry::PublishedEntry;
@@ -75,7 +74,7 @@ impl Dropped {
 }
 
 /// The dates of the window on which keys of the entries clash. These keys are appended to the list, rising.
-pub(crate) fn find_clash_dates<E: PublishedEntry + RankedEntry>(
+pub(crate) fn find_clash_dates<E: PublishedEntry>(
     alloc: Global,
     entries: &[E],
     holidays: &Holidays,
@@ -91,7 +90,7 @@ pub(crate) fn find_clash_dates<E: PublishedEntry + RankedEntry>(
     let mut rest = positions.as_slice();
     while !rest.is_empty() {
         let (members, later) = rest.split_at(count_of_first_key(entries, rest));
-        let found = counted_clash_dates(alloc, entries, members, holidays, window)?;
+        let found = E::clash_dates(alloc, entries, members, holidays, window)?;
         list_key(&entries[members[0]], found, &mut dates, reported)?;
         rest = later;
     }

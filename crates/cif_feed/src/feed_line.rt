@@ -21,7 +21,7 @@ use cif_records::{
 };
 
 /// What is read.
-#[derive(Clone, Copy, Debug, PartialEq, Eq)]
+#[derive(Clone, Copy, PartialEq, Eq)]
 pub enum Feed {
     /// A published extract.
     Full,

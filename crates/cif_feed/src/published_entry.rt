@@ -1,34 +1,38 @@
 //! The records of a published extract as entries of the calendar.
-ghost use Rattle.std.specs.Prelude.{◌≡◌, ◌↔◌, Some, IsTrue};
-ghost use Rattle.cif_feed.specs.declared.holidays.HolidayCode.{HolidayCode};
+ghost use Rattle.std.specs.Prelude.{◌≡◌, ◌<◌, ◌+◌, All, IfOk, length};
+ghost use Rattle.cif_feed.specs.Steps.Counting.{AreClashDatesOn, CountsAmong, code_list};
 
-use crate::{HolidayCode, PublishedAssociation, PublishedSchedule};
-use cif_calendar::{Entry, NamedEntry, RankedEntry};
+use crate::counting::counted_clash_dates;
+use crate::{Holidays, PublishedAssociation, PublishedSchedule};
+use cif_calendar::{Entry, NamedEntry, RankedEntry, Window, clash_dates};
 use cif_columns::{Day, DaysRun, Stp, Uid};
 use cif_extract::{Body, Clash};
 use cif_records::{AssocBody, AssocKey};
+use std::alloc::{AllocError, Global};
 
 /// A record of a published extract: an entry, which doesn't count on the holidays of its code. Where its end is open,
 /// its last date is the last day there is.
-pub(crate) trait PublishedEntry: NamedEntry {
+pub(crate) trait PublishedEntry: NamedEntry + RankedEntry {
     ghost use Rattle.cif_feed.specs.Published.{PublishedTerms};
 
     // What the rules read of it.
     ghost published: { Self → PublishedTerms Self.Body };
 
-    /// Its holiday code.
-    fn code(&self) -> Option<HolidayCode>
-        ensures { result ≡ (published self.now).code };
+    /// The dates of the window on which two winners have different bodies, by the entries at `members`, each of which
+    /// doesn't count on the holidays of its code. They rise.
+    fn clash_dates(
+        alloc: Global,
+        entries: &[Self],
+        members: &[usize],
+        holidays: &Holidays,
+        window: &Window,
+    ) -> Result<Vec<Day>, AllocError>
+        requires { All (λ i. i < length entries.now) members.now }
+        ensures { IfOk result (λ days. AreClashDatesOn (CountsAmong holidays.now published entries.now members.now code_list)
+            window.now.first (window.now.last + 1) days.items) };
 
     // Its dates, its letter and what runs are those of the entry.
     ghost own_terms: { (e : Self) → (published e).terms ≡ Self.terms e };
-}
-
-/// Whether the entry has the code.
-pub(crate) fn is_of<E: PublishedEntry>(entry: &E, code: HolidayCode) -> bool
-    ensures { IsTrue result ↔ ((E.published entry.now).code ≡ Some code) }
-{
-    entry.code() == Some(code)
 }
 
 impl Entry for PublishedAssociation {
@@ -107,8 +111,15 @@ impl PublishedEntry for PublishedAssociation {
 
     ghost published = { published_association_terms };
 
-    fn code(&self) -> Option<HolidayCode> {
-        None
+    // It has no code.
+    fn clash_dates(
+        alloc: Global,
+        entries: &[PublishedAssociation],
+        members: &[usize],
+        _holidays: &Holidays,
+        window: &Window,
+    ) -> Result<Vec<Day>, AllocError> {
+        clash_dates(alloc, entries, members, window)
     }
 
     ghost own_terms = { λ a. refl };
@@ -190,8 +201,14 @@ impl PublishedEntry for PublishedSchedule {
 
     ghost published = { published_schedule_terms };
 
-    fn code(&self) -> Option<HolidayCode> {
-        self.code
+    fn clash_dates(
+        alloc: Global,
+        entries: &[PublishedSchedule],
+        members: &[usize],
+        holidays: &Holidays,
+        window: &Window,
+    ) -> Result<Vec<Day>, AllocError> {
+        counted_clash_dates(alloc, entries, members, holidays, window)
     }
 
     ghost own_terms = { λ s. refl };

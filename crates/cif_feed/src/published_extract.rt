@@ -15,7 +15,7 @@ use cif_records::{Association, Header, Tiploc};
 use std::alloc::{AllocError, Global};
 
 /// An association of a published extract.
-#[derive(Debug, Drop)]
+#[derive(Drop)]
 pub struct PublishedAssociation {
     /// The association of this profile. Where its end is open, its last date is the last day there is.
     pub association: Association,
@@ -25,7 +25,7 @@ pub struct PublishedAssociation {
 }
 
 /// A schedule of a published extract.
-#[derive(Debug, Drop)]
+#[derive(Drop)]
 pub struct PublishedSchedule {
     /// The schedule of this profile. Where its end is open, its last date is the last day there is.
     pub schedule: Schedule,
@@ -38,7 +38,7 @@ pub struct PublishedSchedule {
 
 /// A published extract: the records of a full extract, in their order and with repeats, with open ends and
 /// holiday codes.
-#[derive(Debug, Drop)]
+#[derive(Drop)]
 pub struct PublishedExtract {
     /// Its header, which has its window.
     pub header: Header,

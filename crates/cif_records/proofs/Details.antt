@@ -45,8 +45,7 @@ detail_of vs = record {
 }
 
 -- one detail stands in a line at most
-pub one_detail : (line : List ℕ) (x y : Detail) → AllStandIn line (detail_rows (Some x)) → AllStandIn line (detail_rows (Some y))
-    → x ≡ y
+pub one_detail : (line : List ℕ) (x y : Detail) → AllStandIn line (detail_rows (Some x)) → AllStandIn line (detail_rows (Some y)) → x ≡ y
 one_detail line x y p q = ap detail_of (one_table line (detail_rows (Some x)) (detail_rows (Some y)) refl p q)
 
 -- the detail in a line of its own is the one that stands there
@@ -81,8 +80,7 @@ module _ (before line after : List ℕ) (wide : length line ≡ 80) (front : len
       ∙ get_or_append_left (columns 30 78 line) after 0 j (omega (arith, many, lt)) ∙ read line 30 78 j lt
 
   -- they are those of the line
-  pub between_columns : (from to : ℕ) → 30 ≤ from → from ≤ to → to ≤ 78
-      → columns from to (between before line after) ≡ columns from to line
+  pub between_columns : (from to : ℕ) → 30 ≤ from → from ≤ to → to ≤ 78 → columns from to (between before line after) ≡ columns from to line
   between_columns from to start some within =
       let one = width (between before line after) from to between_wide (omega (arith, start)) some (omega (arith, within)) in
       let other = width line from to wide (omega (arith, start)) some (omega (arith, within)) in

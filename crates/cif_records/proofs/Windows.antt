@@ -70,8 +70,7 @@ module _ (old first last : List ℕ) (wide : length old ≡ 58) (first_wide : le
       ∙ take_all 6 last (omega arith)
 
   -- each of the columns is printable
-  pub are_printable : ArePrintable old → ArePrintable first → ArePrintable last
-      → ArePrintable (put_mid 52 6 (put_mid 46 6 old first) last)
+  pub are_printable : ArePrintable old → ArePrintable first → ArePrintable last → ArePrintable (put_mid 52 6 (put_mid 46 6 old first) last)
   are_printable p q r =
       subst ArePrintable (sym written)
       (All-append IsPrintable _ _ (All-take IsPrintable 46 old p) (All-append IsPrintable _ _ q r))

@@ -16,7 +16,7 @@ const CLASHES: &str =
     "cif clashes lists all clashes; cif prepare --drop-clashes leaves them out on their dates";
 
 /// A job that was done.
-#[derive(Drop)]
+#[derive(Clone, Copy)]
 pub(crate) struct DoneJob<'a, 'b> {
     pub(crate) verbosity: Verbosity,
     pub(crate) job: &'a Job,

@@ -26,7 +26,7 @@ const IN_THEIR_ORDER: &str = "updates stand in their order, the oldest first";
 // ---- prepare
 
 /// A job of `prepare` that was done, with its inputs and its output.
-#[derive(Drop)]
+#[derive(Clone, Copy)]
 pub(crate) struct DonePrepareJob<'a, 'h, 'b> {
     pub(crate) verbosity: Verbosity,
     pub(crate) job: &'a PrepareJob,
@@ -95,7 +95,7 @@ impl DonePrepareJob<'_, '_, '_> {
 // ---- update
 
 /// A job of `update` that was done, with its inputs and its output.
-#[derive(Drop)]
+#[derive(Clone, Copy)]
 pub(crate) struct DoneUpdateJob<'a, 'b> {
     pub(crate) verbosity: Verbosity,
     /// What became of the output.

@@ -28,7 +28,7 @@ pub struct InputNames {
 }
 
 /// What a command is asked for.
-#[derive(Drop)]
+#[derive(Clone, Copy)]
 pub enum Task {
     /// Something of extracts.
     Extract(Job),
@@ -37,7 +37,7 @@ pub enum Task {
 }
 
 /// What a command that reads extracts is asked for.
-#[derive(Drop)]
+#[derive(Clone, Copy)]
 pub enum Job {
     /// To write the canonical extract.
     Normalise(CanonicalJob),
@@ -64,7 +64,7 @@ pub enum Job {
 }
 
 /// Of which canonical extract `normalise`, `check` and `table` are asked for something.
-#[derive(Drop)]
+#[derive(Clone, Copy)]
 pub struct CanonicalJob {
     pub asked: Asked,
     pub form: Form,
@@ -72,28 +72,28 @@ pub struct CanonicalJob {
 
 /// What `compare` and `diff` are asked for. With `common`, dates that aren't asked for are those of the window that both
 /// extracts have in common.
-#[derive(Drop)]
+#[derive(Clone, Copy)]
 pub struct CompareJob {
     pub asked: Asked,
     pub common: bool,
 }
 
 /// What `diff` is asked for.
-#[derive(Drop)]
+#[derive(Clone, Copy)]
 pub struct DiffJob {
     pub compared: CompareJob,
     pub format: Format,
 }
 
 /// What `day` is asked for.
-#[derive(Drop)]
+#[derive(Clone, Copy)]
 pub struct DayJob {
     pub day: Day,
     pub listing: Listing,
 }
 
 /// What `train` is asked for.
-#[derive(Drop)]
+#[derive(Clone, Copy)]
 pub struct TrainJob {
     pub uid: Uid,
     pub asked: Asked,
@@ -102,7 +102,7 @@ pub struct TrainJob {
 }
 
 /// What `explain` is asked for.
-#[derive(Drop)]
+#[derive(Clone, Copy)]
 pub struct ExplainJob {
     pub uid: Uid,
     pub day: Day,
@@ -110,21 +110,21 @@ pub struct ExplainJob {
 }
 
 /// What `table` is asked for.
-#[derive(Drop)]
+#[derive(Clone, Copy)]
 pub struct TableJob {
     pub table: Table,
     pub canonical: CanonicalJob,
 }
 
 /// What `calendar` is asked for.
-#[derive(Drop)]
+#[derive(Clone, Copy)]
 pub struct CalendarJob {
     pub uid: Uid,
     pub asked: Asked,
 }
 
 /// What a command that reads published extracts is asked for.
-#[derive(Drop)]
+#[derive(Clone, Copy)]
 pub enum FeedJob {
     /// To write the prepared extract of a published one, the last input. An input before it has the holidays;
     /// without one there are none.
@@ -134,14 +134,14 @@ pub enum FeedJob {
 }
 
 /// What `prepare` is asked for.
-#[derive(Drop)]
+#[derive(Clone, Copy)]
 pub struct PrepareJob {
     /// Whether what clashes is left out.
     pub drop_clashes: bool,
 }
 
 /// What `update` is asked for.
-#[derive(Drop)]
+#[derive(Clone, Copy)]
 pub struct UpdateJob {
     /// Whether a line whose key is there already, or isn't there, is waived.
     pub lenient: bool,
@@ -165,7 +165,7 @@ pub enum JobFault {
 }
 
 /// Inputs of which one may be the standard input.
-#[derive(Clone, Copy, Debug)]
+#[derive(Clone, Copy)]
 pub enum Inputs {
     /// The two extracts of `compare` or `diff`.
     LeftAndRight,

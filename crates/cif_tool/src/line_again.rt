@@ -28,9 +28,11 @@ impl LineAgain {
         if line.read_until(b'\n', &mut bytes).ok()? == 0 {
             return None;
         }
-        let is_ended = bytes.last() == Some(&b'\n');
-        let length = match bytes.as_slice() {
-            [line @ .., b'\r', b'\n'] | [line @ .., b'\n'] | line => line.len(),
+        let ended = bytes.as_slice().strip_suffix(b"\n");
+        let is_ended = ended.is_some();
+        let length = match ended {
+            Some(line) => line.strip_suffix(b"\r").unwrap_or(line).len(),
+            None => bytes.len(),
         };
         bytes.truncate(length);
         let is_whole = length < known;

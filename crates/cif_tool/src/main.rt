@@ -111,14 +111,14 @@ fn answer_job(
     errors: &mut Sink<Stderr>,
 ) -> Result<u8, Fault> {
     // Of a job with one input `right` is never touched.
-    let (side, right_side, right_file) = match request.inputs.rest.first() {
-        Some(file) => ("LEFT", "RIGHT", file.as_str()),
-        None => ("", "", "-"),
+    let (side, right_file) = match request.inputs.rest.first() {
+        Some(file) => ("LEFT", file.as_str()),
+        None => ("", "-"),
     };
     let alloc = rt.alloc();
     let verbosity = Verbosity::of(rt, request.verbose);
     let mut left = boxed_source(rt, side, request.inputs.first.as_str(), verbosity)?;
-    let mut right = boxed_source(rt, right_side, right_file, verbosity)?;
+    let mut right = boxed_source(rt, "RIGHT", right_file, verbosity)?;
     let mut written = OutputState::new();
     let mut output = standard_output(rt, &mut written)?;
     let ended = run_job(alloc, job, &mut *left, &mut *right, &mut output, errors);

@@ -6,33 +6,38 @@ use cif_feed::HolidayCode;
 pub(crate) const YYMMDD: &str = "must be a valid date as six digits, YYMMDD";
 
 /// For which columns a reason can refuse a line: the reason, with which letters the line begins, and the first and the
-/// last column of each, counted from 1.
-static TABLE: [(Refusal, &str, &[(usize, usize)]); 21] = [
-    (Refusal::UnknownRecord, "", &[(1, 2)]),
-    (Refusal::OutOfOrder, "", &[(1, 2)]),
-    (Refusal::NotFull, "HD", &[(47, 47)]),
-    (Refusal::NotFull, "AA", &[(3, 3)]),
-    (Refusal::NotFull, "BS", &[(3, 3)]),
-    (Refusal::NotFull, "T", &[(1, 2)]),
-    (Refusal::BadDate, "HD", &[(49, 54), (55, 60)]),
-    (Refusal::BadDate, "AA", &[(16, 21), (22, 27)]),
-    (Refusal::BadDate, "BS", &[(10, 15), (16, 21)]),
-    (Refusal::OpenEnd, "AA", &[(22, 27)]),
-    (Refusal::OpenEnd, "BS", &[(16, 21)]),
-    (Refusal::DatesReversed, "HD", &[(49, 60)]),
-    (Refusal::DatesReversed, "AA", &[(16, 27)]),
-    (Refusal::DatesReversed, "BS", &[(10, 21)]),
-    (Refusal::BadDays, "AA", &[(28, 34)]),
-    (Refusal::BadDays, "BS", &[(22, 28)]),
-    (Refusal::BankHoliday, "BS", &[(29, 29)]),
-    (Refusal::BadStp, "", &[(80, 80)]),
-    (Refusal::BadTime, "LO", &[(11, 15), (16, 19)]),
-    (
-        Refusal::BadTime,
-        "LI",
-        &[(11, 15), (16, 20), (21, 25), (26, 29), (30, 33)],
-    ),
-    (Refusal::BadTime, "LT", &[(11, 15), (16, 19)]),
+/// last column, counted from 1.
+static TABLE: [(Refusal, &str, usize, usize); 30] = [
+    (Refusal::UnknownRecord, "", 1, 2),
+    (Refusal::OutOfOrder, "", 1, 2),
+    (Refusal::NotFull, "HD", 47, 47),
+    (Refusal::NotFull, "AA", 3, 3),
+    (Refusal::NotFull, "BS", 3, 3),
+    (Refusal::NotFull, "T", 1, 2),
+    (Refusal::BadDate, "HD", 49, 54),
+    (Refusal::BadDate, "HD", 55, 60),
+    (Refusal::BadDate, "AA", 16, 21),
+    (Refusal::BadDate, "AA", 22, 27),
+    (Refusal::BadDate, "BS", 10, 15),
+    (Refusal::BadDate, "BS", 16, 21),
+    (Refusal::OpenEnd, "AA", 22, 27),
+    (Refusal::OpenEnd, "BS", 16, 21),
+    (Refusal::DatesReversed, "HD", 49, 60),
+    (Refusal::DatesReversed, "AA", 16, 27),
+    (Refusal::DatesReversed, "BS", 10, 21),
+    (Refusal::BadDays, "AA", 28, 34),
+    (Refusal::BadDays, "BS", 22, 28),
+    (Refusal::BankHoliday, "BS", 29, 29),
+    (Refusal::BadStp, "", 80, 80),
+    (Refusal::BadTime, "LO", 11, 15),
+    (Refusal::BadTime, "LO", 16, 19),
+    (Refusal::BadTime, "LI", 11, 15),
+    (Refusal::BadTime, "LI", 16, 20),
+    (Refusal::BadTime, "LI", 21, 25),
+    (Refusal::BadTime, "LI", 26, 29),
+    (Refusal::BadTime, "LI", 30, 33),
+    (Refusal::BadTime, "LT", 11, 15),
+    (Refusal::BadTime, "LT", 16, 19),
 ];
 
 /// The first and the last column for which the line is refused, and what must stand there.
@@ -41,13 +46,11 @@ pub(crate) fn columns_refused(line: &[u8], why: Refusal) -> Option<(usize, usize
         let column = bad_byte(line)?;
         return Some((column, column, "a byte is 0x20 to 0x7E"));
     }
-    for (reason, kind, places) in &TABLE {
+    for (reason, kind, first, last) in &TABLE {
         if *reason == why && line.starts_with(kind.as_bytes()) {
-            for (first, last) in *places {
-                let columns = line.get(first.saturating_sub(1)..*last)?;
-                if is_refused(kind, why, columns) {
-                    return Some((*first, *last, must_stand(kind, why, columns.len())));
-                }
+            let columns = line.get(first.saturating_sub(1)..*last)?;
+            if is_refused(kind, why, columns) {
+                return Some((*first, *last, must_stand(kind, why, columns.len())));
             }
         }
     }

@@ -1,18 +1,35 @@
 -- The rows of fields that differ.
 use Rattle.cif_views.proofs.Names.{Bool, Bor, Change, Column, Field, FieldPlace, IsTrue, JourneyKind, List, Other, Stop, TableFields, Tsv}
 use Rattle.cif_views.proofs.Names.{Whole, [], and_parts, ap, append_assoc, ap₂, are_texts, arith, both-after, bytes_decides, call_columns}
-use Rattle.cif_views.proofs.Names.{change_columns, column, columns, cond, differing_rows, drop, false, false≢true, field_in, field_row}
-use Rattle.cif_views.proofs.Names.{fields_in, find, flat_map, get_or, if◌then◌else◌, in_journey, is_call, is_change, is_identity, is_text}
-use Rattle.cif_views.proofs.Names.{is_text_place, is_within, journey_kind, kind_of_line, kinds, length, map, named, names, nat_eq, nat_le}
-use Rattle.cif_views.proofs.Names.{number, own_call_fields, own_change_fields, own_fields, place_behind, places_behind, pointwise, refl}
-use Rattle.cif_views.proofs.Names.{row_behind, row_fields, same_places, shown, slice_index_or, span_in, suc, sym, take, take-take, trimmed}
-use Rattle.cif_views.proofs.Names.{true, zero, ℕ, ◌&&◌, ◌++◌, ◌+◌, ◌<◌, ◌∙◌, ◌∷◌, ◌≡◌}
+use Rattle.cif_views.proofs.Names.{change_columns, column, columns, cond, count_of_calls, differing_rows, drop, false, false≢true, field_in}
+use Rattle.cif_views.proofs.Names.{field_row, fields_in, find, flat_map, get_or, if◌then◌else◌, in_journey, is_call, is_change, is_identity}
+use Rattle.cif_views.proofs.Names.{is_span, is_text, is_text_place, is_within, journey_kind, kind_of_line, kinds, length, map, named, names}
+use Rattle.cif_views.proofs.Names.{nat_eq, nat_le, number, own_call_fields, own_change_fields, own_fields, place_behind, places_behind}
+use Rattle.cif_views.proofs.Names.{pointwise, refl, row_behind, row_fields, same_places, shown, slice_index_or, span_in, subst, suc, sym}
+use Rattle.cif_views.proofs.Names.{take, take-take, trimmed, true, zero, ℕ, ◌&&◌, ◌++◌, ◌+◌, ◌<◌, ◌∙◌, ◌∷◌, ◌≡◌}
 use Rattle.cif_canon.specs.Fields.{after}
-use Rattle.cif_views.{proofs.TableRows.behind-row, proofs.TableRows.call-fields, specs.DifferenceTable.text, specs.Steps.Columns.shown_at}
+use Rattle.cif_views.{proofs.TableRows.behind-row, proofs.TableRows.call-fields, specs.DifferenceTable.text}
+use Rattle.cif_views.specs.Steps.Columns.{is_short, shown_at}
 use Rattle.cif_views.{specs.declared.columns.JourneyKind.TheVariants.Origin, specs.declared.columns.JourneyKind.TheVariants.Terminus}
 use Rattle.cif_views.specs.declared.columns.FieldPlace.TheVariants as place
 
 -- ---- one field
+
+-- what the place of a field says of its columns in a line of this kind
+short-span : (span : ℕ × ℕ) → IsTrue (is_short span) → IsTrue (is_span span)
+short-span span short = (and_parts (is_span span) _ short).0
+
+within-span : (kind : JourneyKind) (at : FieldPlace) → IsTrue (is_within at) → IsTrue (is_span (span_in kind at))
+within-span kind (place.Text first last) within = within
+within-span kind (place.Whole first last) within = within
+within-span kind (place.Date first last) within = (and_parts (is_span (first, last)) _ within).0
+within-span kind (place.DayFirst first last) within = (and_parts (is_span (first, last)) _ within).0
+within-span kind place.Nowhere within = refl
+within-span Origin (place.Call o s t) within = short-span o (and_parts (is_short o) _ within).0
+within-span Stop (place.Call o s t) within = short-span s (and_parts (is_short s) (is_short t) (and_parts (is_short o) _ within).1).0
+within-span Terminus (place.Call o s t) within = short-span t (and_parts (is_short s) (is_short t) (and_parts (is_short o) _ within).1).1
+within-span Change (place.Call o s t) within = refl
+within-span Other (place.Call o s t) within = refl
 
 pub text-shown : (at : FieldPlace) → IsTrue (is_text_place at) → (there : List ℕ) → shown Tsv (shown_at at there) ≡ trimmed there
 text-shown (place.Text _ _) is there = refl
@@ -25,6 +42,9 @@ text-shown (place.DayFirst _ _) is there = absurd (false≢true is)
 module _ (it : Column) (is : IsTrue (is_text it)) where
   place-parts : IsTrue (is_text_place it.1) × IsTrue (is_within it.1)
   place-parts = and_parts (is_text_place it.1) (is_within it.1) (and_parts (nat_le (length it.0) 20) _ is).1
+
+  pub text-span : (kind : JourneyKind) (span : ℕ × ℕ) → span ≡ span_in kind it.1 → IsTrue (is_span span)
+  text-span kind span is = subst (λ (s : ℕ × ℕ). IsTrue (is_span s)) (sym is) (within-span kind it.1 place-parts.1)
 
   -- its cells, as the code has them
   module _ (begun : List ℕ) (kind : JourneyKind) (left right one other : List ℕ) (span : ℕ × ℕ) (is-span : span ≡ span_in kind it.1)
@@ -156,6 +176,15 @@ by-first [] rights some more = absurd (omega (arith, some))
 by-first (l ∷ lefts) [] some more = absurd (omega (arith, more))
 by-first (l ∷ lefts) (r ∷ rights) some more = refl
 
+pub firsts-tested : (lefts rights : List (List ℕ)) (line other one two : List ℕ) (test : Bool) → 0 < length lefts → 0 < length rights →
+    line ≡ slice_index_or lefts 0 [] → other ≡ slice_index_or rights 0 [] → one ≡ columns 1 10 line → two ≡ columns 1 10 other →
+    pointwise nat_eq one two ≡ test → same_places lefts rights ≡ (test && same_places (drop 1 lefts) (drop 1 rights))
+firsts-tested lefts rights line other one two test some more left right one_is two_is is =
+    by-first lefts rights some more
+    ∙ ap (λ (b : Bool). b && same_places (drop 1 lefts) (drop 1 rights))
+    (ap₂ (λ (a b : List ℕ). pointwise nat_eq a b) (ap (columns 1 10) (sym left) ∙ sym one_is) (ap (columns 1 10) (sym right) ∙ sym two_is)
+    ∙ is)
+
 -- journeys with the same places have as many lines
 pub as-many : (lefts rights : List (List ℕ)) → IsTrue (same_places lefts rights) → length lefts ≡ length rights
 as-many [] [] same = refl
@@ -183,3 +212,14 @@ module _ (begun whole : List ℕ) where
       PlacesAreLeft (text ++ place_behind begun call kind line other) next more others
   one-place text call next kind lefts rights line other more others left right of_line after_line is =
       rw (after_line, of_line) (append_assoc text (place_behind begun call (kind_of_line line) line other) _ ∙ rw (left, right) at is)
+
+-- the calls so far and those of the rest are all, with one line more
+one-counted : (is : Bool) (count next total n : ℕ) → next ≡ cond is (count + 1) count → total ≡ count + cond is (n + 1) n → total ≡ next + n
+one-counted true count next total n e all = omega (arith, e, all)
+one-counted false count next total n e all = omega (arith, e, all)
+
+pub counted-more : (count next total : ℕ) (kind : JourneyKind) (lines rest : List (List ℕ)) (line : List ℕ) → lines ≡ line ∷ rest →
+    kind ≡ kind_of_line line → next ≡ cond (is_call kind) (count + 1) count → total ≡ count + count_of_calls lines →
+    total ≡ next + count_of_calls rest
+counted-more count next total kind lines rest line is of_line e all =
+    one-counted (is_call kind) count next total (count_of_calls rest) e (rw of_line (all ∙ ap (λ ls. count + count_of_calls ls) is))

@@ -16,7 +16,7 @@ const LONGEST_CLASH_LINE: usize = 54;
 
 /// The clashes of an extract in its window: a clause sees them as a list, in which associations come
 /// before trains, and both rise by key.
-#[derive(Debug, Drop)]
+#[derive(Drop)]
 pub struct Clashes {
     found: Vec<Clash>,
 }

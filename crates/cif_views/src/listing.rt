@@ -22,7 +22,7 @@ use cif_weeks::{Form, Run};
 use std::alloc::Global;
 
 /// How what runs is listed.
-#[derive(Clone, Copy, Debug)]
+#[derive(Clone, Copy)]
 pub struct Listing {
     /// How fields are laid out.
     pub format: Format,

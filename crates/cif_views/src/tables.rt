@@ -24,7 +24,7 @@ use cif_extract::Fault;
 use cif_records::Tiploc;
 
 /// The tables of a canonical extract. All but the last together say what it says.
-#[derive(Clone, Copy, Debug, PartialEq, Eq)]
+#[derive(Clone, Copy, PartialEq, Eq)]
 pub enum Table {
     /// HD.
     Header,
@@ -256,19 +256,20 @@ fn push_call<const KIND: usize>(row: &mut TableRow, line: &Line)
     ensures len { length row.new ≤ length row.old + 219 }
 {
     let kind = call_kind(KIND);
-    row.push_of_copy(&CALL[0].1, kind, *line);
-    row.push_of_copy(&CALL[1].1, kind, *line);
-    row.push_of_copy(&CALL[2].1, kind, *line);
-    row.push_of_copy(&CALL[3].1, kind, *line);
-    row.push_of_copy(&CALL[4].1, kind, *line);
-    row.push_of_copy(&CALL[5].1, kind, *line);
-    row.push_of_copy(&CALL[6].1, kind, *line);
-    row.push_of_copy(&CALL[7].1, kind, *line);
-    row.push_of_copy(&CALL[8].1, kind, *line);
-    row.push_of_copy(&CALL[9].1, kind, *line);
-    row.push_of_copy(&CALL[10].1, kind, *line);
-    row.push_of_copy(&CALL[11].1, kind, *line);
-    row.push_of_copy(&CALL[12].1, kind, *line);
-    row.push_of_copy(&CALL[13].1, kind, *line);
-    row.push_of_copy(&CALL[14].1, kind, *line);
+    let columns = &CALL;
+    row.push_of_copy(&columns[0].1, kind, *line);
+    row.push_of_copy(&columns[1].1, kind, *line);
+    row.push_of_copy(&columns[2].1, kind, *line);
+    row.push_of_copy(&columns[3].1, kind, *line);
+    row.push_of_copy(&columns[4].1, kind, *line);
+    row.push_of_copy(&columns[5].1, kind, *line);
+    row.push_of_copy(&columns[6].1, kind, *line);
+    row.push_of_copy(&columns[7].1, kind, *line);
+    row.push_of_copy(&columns[8].1, kind, *line);
+    row.push_of_copy(&columns[9].1, kind, *line);
+    row.push_of_copy(&columns[10].1, kind, *line);
+    row.push_of_copy(&columns[11].1, kind, *line);
+    row.push_of_copy(&columns[12].1, kind, *line);
+    row.push_of_copy(&columns[13].1, kind, *line);
+    row.push_of_copy(&columns[14].1, kind, *line);
 }

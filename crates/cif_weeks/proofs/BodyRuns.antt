@@ -98,12 +98,7 @@ module _ (form : Form) (window : Window) (on : ℕ → Type 0) (source : ℕ) wh
             IsLatest form window on source (last + 1) run
         latest-of run is source_is grown =
             let l_below = below l is_last.runs in
-            record {
-              grown = grown;
-              source_is = source_is;
-              upto = omega arith;
-              none_after = λ n after less. absurd (omega arith);
-            }
+            record { grown = grown; source_is = source_is; upto = omega arith; none_after = λ n after less. absurd (omega arith) }
 
         -- a run that begins with these weeks
         new-grown : (first : ℕ) → first + 4 ≡ week * 7 + f →

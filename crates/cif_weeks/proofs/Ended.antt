@@ -30,8 +30,7 @@ module _ {B : Type 0} (window : Window) (on : ℕ → Type 0) (inside : (n : ℕ
             )
             | inr p ↦ inr (
               λ e. p.0 (subst (λ v. RunsOn r.days v) day_i ((fits_last window on inside Two r g).shows i week_i e)),
-              mask_runs on (week_of r.last + 1) next (i + 7) k there
-                  (subst (λ v. RunsOn next v) (sym day_there) p.1),
+              mask_runs on (week_of r.last + 1) next (i + 7) k there (subst (λ v. RunsOn next v) (sym day_there) p.1),
             )
           ];
         },

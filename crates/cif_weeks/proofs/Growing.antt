@@ -34,15 +34,11 @@ module _ {B : Type 0} (window : Window) (on : ℕ → Type 0) (inside : (n : ℕ
       (seven : length both ≡ 7) (union : (w : ℕ) → RunsOn both w ↔ (RunsOn r.days w ⊎ RunsOn next w)) where
     -- form 1: the weekdays of the record's mask are those of the next week's
     one_both : MasksAgree One window week r.days next → (w : ℕ) → RunsOn both w → RunsOn r.days w
-    one_both agree w has = elim ((union w).0 has) [
-      | inl h ↦ h
-      | inr h ↦ (agree w (RunsOn-below next w k.seven h) tt).1 h
-    ]
+    one_both agree w has = elim ((union w).0 has) [ | inl h ↦ h | inr h ↦ (agree w (RunsOn-below next w k.seven h) tt).1 h ]
 
     -- form 2: the weekdays of the next week's mask are right in the record's weeks, and those of the record's in the next week
     module _ (g : IsGrown Two window on r) (agree : MasksAgree Two window week r.days next) where
-      two_old : (n : ℕ) → week_of r.first ≤ week_of n → week_of n ≤ week_of r.last → IsWithin window n
-          → RunsOn next (weekday_of n) → on n
+      two_old : (n : ℕ) → week_of r.first ≤ week_of n → week_of n ≤ week_of r.last → IsWithin window n → RunsOn next (weekday_of n) → on n
       two_old n begun unfinished within has =
           let (j, at, day, runs) = k.only (weekday_of n) has in
           let within_j : IsWithin window j = inside j runs in
@@ -90,8 +86,7 @@ module _ {B : Type 0} (window : Window) (on : ℕ → Type 0) (inside : (n : ℕ
       ];
     }
 
-    new_fits : (form : Form) → IsGrown form window on r → MasksAgree form window week r.days next
-        → Fits form window on both (week + 1)
+    new_fits : (form : Form) → IsGrown form window on r → MasksAgree form window week r.days next → Fits form window on both (week + 1)
     new_fits One g agree = record {
       seven = seven;
       shows = λ n at runs. (union (weekday_of n)).1 (inr (k.shows n at runs));

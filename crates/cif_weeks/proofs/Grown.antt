@@ -102,17 +102,9 @@ module _ {B : Type 0} (window : Window) (on : ℕ → Type 0) (inside : (n : ℕ
   }
   grown_aligned Two r g = record {
     seven = g.seven;
-    first = record {
-      within = inside r.first g.first_runs;
-      in_week = refl;
-      in_mask = (grown_first Two r g).on_weekday;
-    };
+    first = record { within = inside r.first g.first_runs; in_week = refl; in_mask = (grown_first Two r g).on_weekday };
     earliest = λ n h. g.earliest n h.in_week ((fits_first Two r g).full n h.in_week h.within h.in_mask);
-    last = record {
-      within = inside r.last g.last_runs;
-      in_week = refl;
-      in_mask = (grown_last Two r g).on_weekday;
-    };
+    last = record { within = inside r.last g.last_runs; in_week = refl; in_mask = (grown_last Two r g).on_weekday };
     latest = λ n h. g.latest n h.in_week ((fits_last Two r g).full n h.in_week h.within h.in_mask);
     used = λ w has.
         let (n, day, begun, unfinished, runs) = g.used w has in

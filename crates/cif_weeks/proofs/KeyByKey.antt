@@ -32,8 +32,7 @@ canonical-none cmp form window = record {
 
 module _ {K B : Type 0} (records : List (K × Permanent B)) (k : K) (own : List (Permanent B)) where
   -- what the list with the key's records has of each key
-  pub of_key-more : (j : K) (r : Permanent B) →
-      of_key (records ++ with_key k own) j r ↔ (of_key records j r ⊎ ((j ≡ k) × Contains own r))
+  pub of_key-more : (j : K) (r : Permanent B) → of_key (records ++ with_key k own) j r ↔ (of_key records j r ⊎ ((j ≡ k) × Contains own r))
   of_key-more j r = (
     λ h. ⊎_elim
         (λ old. inl old)

@@ -26,8 +26,7 @@ module _ {B : Type 0} (form : Form) (window : Window) (runs_on : B → ℕ → T
   separate r s in_r in_s h = separate-from_before window r s form (ordered r in_r) (ordered s in_s) h.before h.change
 
   -- two records with one body are one record, or separate
-  one_or_separate : (r s : Permanent B) → Contains records r → Contains records s → r.body ≡ s.body
-      → (r ≡ s) ⊎ AreSeparate form window r s
+  one_or_separate : (r s : Permanent B) → Contains records r → Contains records s → r.body ≡ s.body → (r ≡ s) ⊎ AreSeparate form window r s
   one_or_separate r s in_r in_s same = elim
       (AllPairs-members (λ r s. r.body ≡ s.body → IsApartFrom form window r s) r s records m.apart in_r in_s) [
         | inl one ↦ inl one
@@ -46,10 +45,7 @@ module _ {B : Type 0} (form : Form) (window : Window) (runs_on : B → ℕ → T
           | inr h ↦ absurd (h.apart (week_of n) (week_of-applies r n on_r) (week_of-applies s n on_s))
         ];
     aligned = m.aligned;
-    separate = λ r s in_r in_s two same. elim (one_or_separate r s in_r in_s same) [
-      | inl one ↦ absurd (two one)
-      | inr h ↦ h
-    ];
+    separate = λ r s in_r in_s two same. elim (one_or_separate r s in_r in_s same) [ | inl one ↦ absurd (two one) | inr h ↦ h ];
   }
 
   -- and say what runs

@@ -43,7 +43,6 @@ module _ {B : Type 0} {xs : List (Terms B)} {members : List ℕ} {window : Windo
           other = t;
           one_wins = wins;
           other_wins = wins_t;
-          bodies_differ = λ same.
-              d.differ (a.one_source d.one d.other d.listed d.other_listed (sym body ∙ same ∙ body_t));
+          bodies_differ = λ same. d.differ (a.one_source d.one d.other d.listed d.other_listed (sym body ∙ same ∙ body_t));
         },
       )

@@ -100,11 +100,7 @@ module _ {B : Type 0} (xs : List (Terms B)) (c : CalendarParts) where
   -- of other days it is known what runs, if of all of them that have a body
   pub spans-known : {known other : ℕ → Type 0} (spans : List Span) → ((n : ℕ) (b : B) → other n → body_in xs c n ≡ Some b → known n) →
       AreSpansOn xs c known spans → AreSpansOn xs c other spans
-  spans-known spans also a = record {
-    each = a.each;
-    all = λ n b is runs. a.all n b (also n b is runs) runs;
-    one_source = a.one_source;
-  }
+  spans-known spans also a = record { each = a.each; all = λ n b is runs. a.all n b (also n b is runs) runs; one_source = a.one_source }
 
   module _ (sources : AreSources xs c) where
     module _ (p : Piece) (of : IsPieceOf c p) where

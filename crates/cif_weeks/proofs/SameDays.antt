@@ -6,10 +6,7 @@ module _ {B : Type 0} (window : Window) {on other : ℕ → Type 0} (forth : (n 
     (r : Permanent B) where
   fits-over : (form : Form) (week : ℕ) → Fits form window on r.days week → Fits form window other r.days week
   fits-over One week m = mask-over week r.days (λ n _. forth n) (λ n _. back n) m
-  fits-over Two week f = record {
-    shows = λ n at h. f.shows n at (back n h);
-    full = λ n at within runs. forth n (f.full n at within runs);
-  }
+  fits-over Two week f = record { shows = λ n at h. f.shows n at (back n h); full = λ n at within runs. forth n (f.full n at within runs) }
 
   pub grown-over : (form : Form) → IsGrown form window on r → IsGrown form window other r
   grown-over form g = record {

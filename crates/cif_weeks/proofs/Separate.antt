@@ -7,11 +7,7 @@ use Rattle.cif_weeks.proofs.WeekDays.{same_day, week_of-next, week_of-rises, wee
 -- it doesn't matter which of the two is named first
 pub AreSeparate-sym : {B : Type 0} (form : Form) (window : Window) (r s : Permanent B) → AreSeparate form window r s
     → AreSeparate form window s r
-AreSeparate-sym form window r s h = record {
-  apart = λ week of_s of_r. h.apart week of_r of_s;
-  follows = h.precedes;
-  precedes = h.follows;
-}
+AreSeparate-sym form window r s h = record { apart = λ week of_s of_r. h.apart week of_r of_s; follows = h.precedes; precedes = h.follows }
 
 module _ {B : Type 0} (window : Window) (r s : Permanent B) where
   module _ (form : Form) (ordered_r : r.first ≤ r.last) (ordered_s : s.first ≤ s.last) where

@@ -128,8 +128,7 @@ module _ {B : Type 0} (xs : List (Terms B)) (window : Window) (spans : List Span
       aligned = λ r listed.
           let (k, h) = stands-in r listed in
           grown_aligned window (Shows spans h.run.source) (have.inside h.run.source) form r h.grown;
-      apart = λ i j d less below.
-          (pair i j _ _ less (slice_get-get_or records i d (omega arith)) (slice_get-get_or records j d below)).1;
+      apart = λ i j d less below. (pair i j _ _ less (slice_get-get_or records i d (omega arith)) (slice_get-get_or records j d below)).1;
       complete = λ n b within s.
           let shows : Shows spans s.it.source n = record { it = s.it; listed = s.listed; is = refl; on = s.leads } in
           let w = are.complete s.it n s.listed (have.has_body s.it s.listed b s.body_is) shows in

@@ -103,10 +103,7 @@ SayTheSame-sym window xs ys h = record { same = λ n b within. ((h.same n b with
 pub SayTheSame-from_runs : {B : Type 0} (window : Window) (body_on : ℕ → Option B) (xs ys : Permanents B)
     → SayWhatRuns window body_on xs → SayWhatRuns window body_on ys → SayTheSame window xs ys
 SayTheSame-from_runs window body_on xs ys x y = record {
-  same = λ n b within. (
-    λ h. (y.says n b within).0 ((x.says n b within).1 h),
-    λ h. (x.says n b within).0 ((y.says n b within).1 h),
-  );
+  same = λ n b within. (λ h. (y.says n b within).0 ((x.says n b within).1 h), λ h. (x.says n b within).0 ((y.says n b within).1 h));
 }
 
 module _ {B : Type 0} (form : Form) (window : Window) where
@@ -239,8 +236,7 @@ module _ {B : Type 0} (form : Form) (window : Window) where
       subst ys (sym one) found.listed
 
   -- so two lists that meet the form are equal
-  pub unique : (body_on : ℕ → Option B) (xs ys : List (Permanent B))
-      → Meets form window body_on xs → Meets form window body_on ys → xs ≡ ys
+  pub unique : (body_on : ℕ → Option B) (xs ys : List (Permanent B)) → Meets form window body_on xs → Meets form window body_on ys → xs ≡ ys
   unique body_on xs ys x y =
       same_members (λ r s. r.first < s.first) (λ r s up down. omega (arith, up, down)) xs ys x.rising y.rising
       (member (Contains xs) (Contains ys) x.have_form y.have_form

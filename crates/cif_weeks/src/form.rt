@@ -34,7 +34,7 @@ pub(crate) fn sort_by_first(runs: &mut Vec<Run>)
 /// In both forms a record is a longest sequence of consecutive weeks, Monday to Sunday, that the form
 /// joins. The body runs in each of them, and the record's first and last date are the first and
 /// last on which it runs there.
-#[derive(Clone, Copy, Debug, PartialEq, Eq)]
+#[derive(Clone, Copy, PartialEq, Eq)]
 pub enum Form {
     /// The mask of a week has the weekdays on which the body runs in it, and two consecutive weeks
     /// are joined where their masks are equal. Of a week that the window cuts, the dates outside

@@ -5,7 +5,6 @@ use Rattle.cif_calendar.proofs.day_state.day_states.Goals as goal
 pub stretches_of-requires-clause-alike : goal.stretches_of-requires-clause-alike
 stretches_of-requires-clause-alike g c = rw (
   c.as_mut_slice.ensures.value,
-  c.in_ok-alike.ensures.items_if_clones_equal
-      (λ y h. search rules),
+  c.in_ok-alike.ensures.items_if_clones_equal (λ y h. search rules),
 )
     (alike-none (map g.E.Entry.terms c.args.entries.now) c.args.members.now)

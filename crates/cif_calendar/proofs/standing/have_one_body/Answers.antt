@@ -14,8 +14,7 @@ loop-init g c = record {
 
 pub returns-then-pair-clause-exact : goal.returns-then-pair-clause-exact
 returns-then-pair-clause-exact g c = (
-  λ _. c.loop.invariant.both.0 (ap (λ k. body_at c.args.members.now.terms (slice_get
-      c.args.members.now.positions k)) c.if-pair.true),
+  λ _. c.loop.invariant.both.0 (ap (λ k. body_at c.args.members.now.terms (slice_get c.args.members.now.positions k)) c.if-pair.true),
   λ _. refl,
 )
 

@@ -5,6 +5,5 @@ use Rattle.cif_calendar.proofs.standing.have_one_body.Given as goal
 abbrev pub invariant-loop : goal.invariant-loop
 invariant-loop g l = record {
   alike : AreAlike l.members.terms l.members.positions l.alike;
-  both : HaveOneBody l.members.terms l.members.positions l.pair.0 l.pair.1
-      ↔ HaveOneBody l.members.terms l.members.positions l.one l.other;
+  both : HaveOneBody l.members.terms l.members.positions l.pair.0 l.pair.1 ↔ HaveOneBody l.members.terms l.members.positions l.one l.other;
 }

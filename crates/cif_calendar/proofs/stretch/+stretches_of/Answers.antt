@@ -80,8 +80,7 @@ loop-left-smaller g t c = let at = goal.at.loop-left-smaller g t c in
 pub returns-then-part-le-MOST_DIRECT : goal.returns-then-part-le-MOST_DIRECT
 returns-then-part-le-MOST_DIRECT g t c = record {
   alike = c.stretches_of_few.ensures.alike;
-  stretches =
-      c.stretches_of_few.ensures.stretches;
+  stretches = c.stretches_of_few.ensures.stretches;
 }
 
 pub returns-in_err-lefts : goal.returns-in_err-lefts

@@ -7,8 +7,7 @@ invariant-loop-stretches g l = record {
   from : l.window.first ≤ l.first;
   upto : l.first ≤ l.window.last;
   alike : AreAlike l.members.terms l.members.positions l.alike;
-  stretches : AreStretches l.members.terms l.members.positions l.part (l.window.last + 1)
-      l.window.first l.first l.stretches.items;
+  stretches : AreStretches l.members.terms l.members.positions l.part (l.window.last + 1) l.window.first l.first l.stretches.items;
 }
 
 abbrev pub decreases-loop-stretches : goal.decreases-loop-stretches

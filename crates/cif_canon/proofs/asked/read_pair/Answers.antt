@@ -14,5 +14,4 @@ returns-in_err-right g c =
     inr (c.in_ok-left.left, c.in_ok-left.ensures, inl (f, at-fault call.result f call.ensures.1, c.in_err-right.ensures))
 
 pub returns : goal.returns
-returns g c =
-    inr (c.in_ok-left.left, c.in_ok-left.ensures, inr (c.in_ok-right.right, c.in_ok-right.ensures, c.narrow_both.ensures))
+returns g c = inr (c.in_ok-left.left, c.in_ok-left.ensures, inr (c.in_ok-right.right, c.in_ok-right.ensures, c.narrow_both.ensures))

@@ -10,8 +10,7 @@ returns-then-are_alike g c =
     let alike = c.if-are_alike.ensures.0 refl in record {
       lefts = [];
       rights = [];
-      left = only-none (map g.E.Entry.terms c.args.left.now) c.args.one.now (map g.E.Entry.terms c.args.right.now) c.args.other.now
-          alike;
+      left = only-none (map g.E.Entry.terms c.args.left.now) c.args.one.now (map g.E.Entry.terms c.args.right.now) c.args.other.now alike;
       right = only-none (map g.E.Entry.terms c.args.right.now) c.args.other.now (map g.E.Entry.terms c.args.left.now) c.args.one.now
           (λ d from upto. sym (alike d (omega (arith, first, from)) (omega (arith, last, upto))));
       appended = merged-none c.args.found.now.items;

@@ -5,10 +5,7 @@ use Rattle.cif_canon.proofs.AppendedTexts.{behind, nothing, text-is}
 use Rattle.cif_canon.proofs.listed_differences.write_pairs.Goals as goal
 
 pub loop-rest-init : goal.loop-rest-init
-loop-rest-init g c = record {
-  records = c.requires;
-  written = ([], refl, nothing _ _ _);
-}
+loop-rest-init g c = record { records = c.requires; written = ([], refl, nothing _ _ _) }
 
 pub first_listed-first-requires-clause-some : goal.first_listed-first-requires-clause-some
 first_listed-first-requires-clause-some g c =
@@ -23,8 +20,7 @@ loop-rest-preserved g c =
     let cmp = g.E.Key.Ord.cmp in
     let f = c.first_listed-first.ensures in
     let (done, split, written) = c.loop-rest.invariant.written in record {
-      records = subst (All (HasSidedRecord xs ys)) (sym f.behind)
-          (All-drop (HasSidedRecord xs ys) f.count _ c.loop-rest.invariant.records);
+      records = subst (All (HasSidedRecord xs ys)) (sym f.behind) (All-drop (HasSidedRecord xs ys) f.count _ c.loop-rest.invariant.records);
       written = (
         done ++ c.first_listed-first.result.0 ∷ [],
         split ∙ ap (λ l. done ++ l) f.first

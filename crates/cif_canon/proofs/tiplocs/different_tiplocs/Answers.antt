@@ -12,8 +12,7 @@ loop-order-init c =
     (sifting-nothing c.as_slice-lefts.result.now c.as_slice-rights.result.now left.rising right.rising)
 
 pub loop-order-preserved : goal.loop-order-preserved
-loop-order-preserved c =
-    c.in_ok-rest.ensures.sifting c.as_slice-lefts.result.now c.as_slice-rights.result.now c.loop-order.invariant
+loop-order-preserved c = c.in_ok-rest.ensures.sifting c.as_slice-lefts.result.now c.as_slice-rights.result.now c.loop-order.invariant
 
 pub returns : goal.returns
 returns c =

@@ -1,36 +1,33 @@
 -- Without a code the members' own clash dates; with one more, those on its holidays are others (`with-code`).
 use Rattle.cif_feed.proofs.Names.{AreClashDatesOn, Contains, CountsAmong, Global, HasCodeAt, HolidayCode, IfOk-weaker, List, Vec, X, arith}
-use Rattle.cif_feed.proofs.Names.{drop, false≢true, get_or, length, nil_from_length, subst, sym, take, ℕ, ◌+◌, ◌-◌, ◌↔◌, ◌≡◌}
+use Rattle.cif_feed.proofs.Names.{drop, false≢true, get_or, length, published_schedule_terms, refl, schedule_terms, subst, sym, take, ℕ}
+use Rattle.cif_feed.proofs.Names.{◌+◌, ◌-◌, ◌↔◌}
 use Rattle.cif_feed.proofs.CountedClashes.{chosen-dates, first-and-rest, with-code, without-code}
 use Rattle.cif_feed.proofs.counting.+clash_dates_by.Goals as goal
 
 pub returns-in_default : goal.returns-in_default
-returns-in_default g t c =
-    let codes = c.args.codes.now in
-    let none : length codes ≡ 0 = (let few = c.in_default.len_below in omega arith) in
+returns-in_default t c =
     let window = c.args.window.now in
-    IfOk-weaker _ _ _ (λ (days : Vec ℕ Global) are. subst (λ (l : List HolidayCode). AreClashDatesOn (CountsAmong c.args.holidays.now
-    g.E.PublishedEntry.published c.args.entries.now c.args.members.now l) window.first (window.last + 1) days.items)
-    (sym (nil_from_length codes none))
-    (chosen-dates c.args.holidays.now g.E.PublishedEntry.published c.args.entries.now g.E.Entry.terms g.met.E.PublishedEntry.own_terms
-    c.args.members.now window.first (window.last + 1) days.items are)) c.clash_dates.ensures
+    IfOk-weaker _ _ _ (λ (days : Vec ℕ Global) are. chosen-dates c.args.holidays.now published_schedule_terms c.args.schedules.now
+    c.args.codes.now (λ s code has of_code. let (k, below, is) = has in omega (arith, c.in_default.len_below, below))
+    (λ s. schedule_terms s.schedule) (λ s. refl) c.args.members.now window.first (window.last + 1) days.items are) c.clash_dates.ensures
 
 pub returns-then-not-have_code : goal.returns-then-not-have_code
-returns-then-not-have_code g t c =
+returns-then-not-have_code t c =
     let codes = c.args.codes.now in
     let window = c.args.window.now in
     let days = c.in_ok-days.days.items in
-    subst (λ (l : List HolidayCode). AreClashDatesOn (CountsAmong c.args.holidays.now g.E.PublishedEntry.published c.args.entries.now
+    subst (λ (l : List HolidayCode). AreClashDatesOn (CountsAmong c.args.holidays.now published_schedule_terms c.args.schedules.now
     c.args.members.now l) window.first (window.last + 1) days) (sym (first-and-rest codes X c.in-len1-up.len_at_least))
-    (without-code c.args.holidays.now g.E.PublishedEntry.published c.args.entries.now (get_or codes 0 X)
+    (without-code c.args.holidays.now published_schedule_terms c.args.schedules.now (get_or codes 0 X)
     (take (length codes - 1) (drop 1 codes)) c.args.members.now
     (λ i member has. false≢true (c.if-not-have_code.ensures i member has)) window.first (window.last + 1) days c.in_ok-days.ensures)
 
 pub returns : goal.returns
-returns g t c =
+returns t c =
     let h = c.args.holidays.now in
-    let published = g.E.PublishedEntry.published in
-    let entries = c.args.entries.now in
+    let published = published_schedule_terms in
+    let entries = c.args.schedules.now in
     let members = c.args.members.now in
     let codes = c.args.codes.now in
     let window = c.args.window.now in

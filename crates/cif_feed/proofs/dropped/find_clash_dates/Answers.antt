@@ -68,6 +68,9 @@ count_of_first_key-requires-clause-rising g c = c.loop-rest.invariant.found.sear
 pub split_at-requires : goal.split_at-requires
 split_at-requires g c = c.count_of_first_key.ensures.count.upto
 
-pub counted_clash_dates-requires : goal.counted_clash_dates-requires
-counted_clash_dates-requires g c =
-    rw c.split_at.ensures.front (All-take (λ i. i < length c.args.entries.now) _ _ c.loop-rest.invariant.within)
+pub clash_dates-requires : goal.clash_dates-requires
+clash_dates-requires g c = rw c.split_at.ensures.front (All-take (λ i. i < length c.args.entries.now) _ _ c.loop-rest.invariant.within)
+
+pub loop-rest-smaller : goal.loop-rest-smaller
+loop-rest-smaller g c =
+    omega (arith, c.split_at.ensures.back_len, c.count_of_first_key.ensures.some, c.count_of_first_key.ensures.count.upto)

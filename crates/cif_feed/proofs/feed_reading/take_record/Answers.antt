@@ -82,6 +82,13 @@ returns-in_ok-put_basic-in-Bs-default c =
     (progress_of c.put_basic.new.self) (mark.Schedule read.mark) _ c.in-Bs-default.is-0 (ap mark.Schedule is.1)
     (c.in_ok-put_basic-in-Bs-default.ensures is.0.basic is.0.terms is.0.detail)
 
+pub returns-in_err-terms-in-Bs-default : goal.returns-in_err-terms-in-Bs-default
+returns-in_err-terms-in-Bs-default c =
+    let read = c.in_err-terms-in-Bs-default in
+    let handed = c.from_residual-in_err-terms-in-Bs-default in
+    refused (goal.at.returns-in_err-terms-in-Bs-default c).Else-not-allows _ c.in-Bs-default.is-0 read.field-0.0
+    read.ensures _ handed.result handed.ensures.1
+
 -- ---- TI, TA and TD
 
 pub returns-in_ok-put_tiploc-in-Ti-default : goal.returns-in_ok-put_tiploc-in-Ti-default

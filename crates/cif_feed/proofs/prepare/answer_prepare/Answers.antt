@@ -1,8 +1,15 @@
 -- The extract is prepared with the holidays that were read, and its text is handed on; or it isn't.
-use Rattle.cif_feed.{proofs.Names.Ok, proofs.PreparedRead.unprepared-fault, specs.declared.feed_fault.FeedFault.TheVariants.Extract}
+use Rattle.cif_feed.proofs.Names.{Ok, inl, refl}
+use Rattle.cif_feed.{proofs.PreparedRead.unprepared-fault, specs.declared.feed_fault.FeedFault.TheVariants.Extract}
 use Rattle.cif_extract.{proofs.ReadCalls.at-fault, specs.declared.fault.Fault.TheVariants.Write}
 use Rattle.cif_feed.proofs.PreparedRead.{prepared-answer, prepared-read, unhanded-answer, unhanded-read, unprepared-answer}
 use Rattle.cif_feed.proofs.prepare.answer_prepare.Goals as goal
+
+pub returns-in_err-read-clause-reads : goal.returns-in_err-read-clause-reads
+returns-in_err-read-clause-reads g c =
+    let call = c.from_residual in
+    let f = c.in_err-read.field-0.0 in
+    inl (f, at-fault call.result f call.ensures.1, refl {a = c.args.source.now}, c.in_err-read.ensures)
 
 pub returns-in_err-dropped-clause-answer : goal.returns-in_err-dropped-clause-answer
 returns-in_err-dropped-clause-answer g c =

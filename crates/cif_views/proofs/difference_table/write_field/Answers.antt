@@ -1,9 +1,18 @@
 -- The cells are as one (`same-cells`), or else they go behind the row and are one (`other-cells`).
 use Rattle.cif_views.proofs.Names.{Whole, [], and_parts, ap, arith, column, leb-true, length, length-append, nat_le, ◌∙◌, ◌∷◌}
 use Rattle.cif_canon.proofs.AppendedTexts.{nothing, text-is}
-use Rattle.cif_views.{proofs.DifferingFields.other-cells, proofs.DifferingFields.same-cells, specs.DifferenceTable.text}
+use Rattle.cif_views.proofs.DifferingFields.{other-cells, same-cells, text-span}
+use Rattle.cif_views.specs.DifferenceTable.{text}
 use Rattle.cif_views.proofs.TableRows.{as-field, copied, more-pushed, row-is}
 use Rattle.cif_views.proofs.difference_table.write_field.Goals as goal
+
+pub text_of-one-requires : goal.text_of-one-requires
+text_of-one-requires g c =
+    text-span (column c.args.field.now) c.requires.field c.args.kind c.span_in-span.result c.span_in-span.ensures
+
+pub text_of-other-requires : goal.text_of-other-requires
+text_of-other-requires g c =
+    text-span (column c.args.field.now) c.requires.field c.args.kind c.span_in-span.result c.span_in-span.ensures
 
 pub push_text-requires : goal.push_text-requires
 push_text-requires g c =

@@ -1,5 +1,6 @@
 -- One line more is written (`one-line`), and where no line is left the text is whole (`none-left`).
-use Rattle.cif_views.proofs.Names.{Tsv, [], ap, arith, is_call, kind_of_line, length, number, refl, row_of_step, step_at, ◌++◌, ◌+◌, ◌∷◌}
+use Rattle.cif_views.proofs.Names.{Tsv, [], ap, arith, is_call, kind_of_line, length, length-drop, number, refl, row_of_step, step_at}
+use Rattle.cif_views.proofs.Names.{◌++◌, ◌+◌, ◌∙◌, ◌∷◌}
 use Rattle.cif_canon.{proofs.AppendedTexts.text-is, specs.Fields.after}
 use Rattle.cif_views.proofs.PublicRows.{none-left, one-line}
 use Rattle.cif_views.proofs.TableRows.{first-and-rest, next-call, no-lines, some-lines}
@@ -22,6 +23,11 @@ loop-lines-preserved g c =
       (n + 2, c.write_step-call.ensures.by n by, omega (arith, long, few)),
       next-call (is_call (kind_of_line line)) c.loop-lines.call _ _ lines _ line is c.write_step-call.ensures.next calls,
     )
+
+pub loop-lines-smaller : goal.loop-lines-smaller
+loop-lines-smaller g c =
+    let some = some-lines c.loop-lines.lines _ c.is_empty.ensures c.loop-lines-test.true in
+    let behind = ap length c.rest-lines.ensures ∙ length-drop 1 c.loop-lines.lines in omega (arith, some, behind)
 
 pub returns : goal.returns
 returns g c =

@@ -4,7 +4,6 @@ use Rattle.cif_weeks.proofs.body_runs.weeks_of.Given as goal
 
 abbrev pub invariant-loop-span : goal.invariant-loop-span
 invariant-loop-span l = record {
-  weeks : (n : ℕ) → SomeOf (λ s. s.source ≡ l.source) HasDay (take l.span-index l.spans) n
-      → (l.first ≤ week_of n) × (week_of n ≤ l.last);
+  weeks : (n : ℕ) → SomeOf (λ s. s.source ≡ l.source) HasDay (take l.span-index l.spans) n → (l.first ≤ week_of n) × (week_of n ≤ l.last);
   in_range : l.last < 65535;
 }

@@ -19,8 +19,7 @@ loop-span-preserved c =
           let u = w.union-days.ensures in
           rw (next, w.days-is, w.last-is) (record {
             weeks = some-more t l.weeks w.if-span-source-2.true e.weeks u.width u.runs;
-            agreed = agree-more t l.agreed e.weeks.upto
-                (λ _. e.agreed.agreed);
+            agreed = agree-more t l.agreed e.weeks.upto (λ _. e.agreed.agreed);
           })
       | else-span-source-2 w ↦
           rw (next, w.days-is, w.last-is) (record {

@@ -13,8 +13,7 @@ point c = IsPartitionPoint-from_clause (λ (s : Span). leb s.source c.span-item.
 
 pub loop-left-init : goal.loop-left-init
 loop-left-init c = record {
-  runs = rw c.requires.none (runs-none c.args.joining.now.form (window_days c.args.joining.now.window)
-      c.args.spans.now);
+  runs = rw c.requires.none (runs-none c.args.joining.now.form (window_days c.args.joining.now.window) c.args.spans.now);
   left = λ s listed. listed;
   whole = λ s t listed _ _. listed;
   order = c.requires.order;

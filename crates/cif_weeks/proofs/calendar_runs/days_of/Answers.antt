@@ -13,10 +13,7 @@ module _ (Has : ℕ → Type 0) (weekday : ℕ) where
         (λ o. let (less, h) = (old w).0 o in (omega arith, h))
         (λ o. let same = (one w).0 o in (omega (arith, same), subst Has (sym same) has))
         ((union w).0 on),
-    λ h. (union w).1 (⊎_elim
-        (λ less. inl ((old w).1 (less, h.1)))
-        (λ from. inr ((one w).1 (omega (arith, h.0))))
-        (cases_lt w weekday)),
+    λ h. (union w).1 (⊎_elim (λ less. inl ((old w).1 (less, h.1))) (λ from. inr ((one w).1 (omega (arith, h.0)))) (cases_lt w weekday)),
   )
 
   -- it doesn't

@@ -28,10 +28,7 @@ loop-position-preserved g c =
             (rw (w.in-Some.ensures.source, ← c.as_slice.ensures.value) of.source);
         few = simp length-append (omega arith);
       })
-      | in_default w ↦ rw w.spans-is (record {
-        are = spans-same _ _ _ _ are _ _ at w.in_default.ensures.none;
-        few = omega arith;
-      })
+      | in_default w ↦ rw w.spans-is (record { are = spans-same _ _ _ _ are _ _ at w.in_default.ensures.none; few = omega arith })
     ])
 
 -- the list that was sorted takes the place of the whole

@@ -16,8 +16,7 @@ returns-clause-writes g c =
     (appended _ _ _ _ _ c.write_trailer.result c.write_trailer.ensures)))
 
 pub write_runs-requires : goal.write_runs-requires
-write_runs-requires g c κs =
-    ((refl, tt), rw (c.as_slice-2.ensures.value, c.as_slice-3.ensures.value) c.self.invariant.0)
+write_runs-requires g c κs = ((refl, tt), rw (c.as_slice-2.ensures.value, c.as_slice-3.ensures.value) c.self.invariant.0)
 
 pub write_schedules-requires : goal.write_schedules-requires
 write_schedules-requires g c = rw (c.as_slice-4.ensures.value, c.as_slice-5.ensures.value) c.self.invariant.1

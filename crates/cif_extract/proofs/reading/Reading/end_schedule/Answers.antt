@@ -27,6 +27,5 @@ returns-in-None c = λ before line h. (
   of.Terminus h.last,
   h.spelled,
   h.again,
-  rw c.take.ensures.after
-      (terminus_none before (progress_of c.args.self.now) h.last h.is (sym c.take.ensures.value ∙ c.in-None.is)),
+  rw c.take.ensures.after (terminus_none before (progress_of c.args.self.now) h.last h.is (sym c.take.ensures.value ∙ c.in-None.is)),
 )

@@ -12,8 +12,7 @@ last c =
     c.in_ok-keep_columns-in-Lt.ensures
 
 pub end_schedule-requires : goal.end_schedule-requires
-end_schedule-requires c =
-    (progress_of c.args.self.now, c.args.columns.now, last (goal.at.end_schedule-requires c).In_ok-keep_columns-in-Lt)
+end_schedule-requires c = (progress_of c.args.self.now, c.args.columns.now, last (goal.at.end_schedule-requires c).In_ok-keep_columns-in-Lt)
 
 pub returns-in_ok-keep_columns-in-Lt : goal.returns-in_ok-keep_columns-in-Lt
 returns-in_ok-keep_columns-in-Lt c =

@@ -2,7 +2,7 @@
 use Rattle.cif_feed.proofs.Names.{AreJudgedAndRest, BadLength, [], ap, arith, content, content_more, given_more, given_none, given_overlong}
 use Rattle.cif_feed.proofs.Names.{inl, inr, judged_all_given, length, line_of, no_contents, of_any, read_nothing, read_on_both, refl}
 use Rattle.cif_feed.proofs.Names.{source_ended, sym, ⊎_elim, ◌++◌, ◌+◌, ◌<◌, ◌∙◌, ◌∷◌, ◌≡◌, ◌≤◌}
-use Rattle.cif_feed.proofs.JudgedRuns.{comes-finished, comes-line_fault, overlong_ok}
+use Rattle.cif_feed.proofs.JudgedRuns.{comes-finished, comes-line_fault, comes-memory, overlong_ok}
 use Rattle.cif_feed.proofs.ReportedReasons.{own_of_long, some_has_here}
 use Rattle.cif_feed.proofs.judged.Judged.read.Goals as goal
 
@@ -28,11 +28,21 @@ loop-contents-preserved g c =
       cs ++ one ∷ [],
       given_more AreJudgedAndRest g.R.Read.remaining g.R.ReadDevice.read_errors _ _ _ _ _ cs so_far c.next.new.self c.next.new.source next
           (λ bytes rest after known first. content_more bytes cs rest one after known first),
-      c.in-Ok.ensures.judged c.args.max_lines cs one judged numbered within
-          (c.line_of.ensures ∙ ap line_of c.content.ensures),
+      c.in-Ok.ensures.judged c.args.max_lines cs one judged numbered within (c.line_of.ensures ∙ ap line_of c.content.ensures),
       read_on_both _ _ _ _ read_on next.device,
       inr (⊎_elim (λ none. sym read_on.going ∙ next.fresh none) (λ begun. begun) begun),
     )
+
+pub loop-contents-smaller : goal.loop-contents-smaller
+loop-contents-smaller g c =
+    let next = rw c.in-Ok-Content.field-0-is at c.in-Ok-Content.ensures in
+    omega (arith, next.holds.0, next.holds.1, c.next.new.self.counted)
+
+pub returns-in-Err-take : goal.returns-in-Err-take
+returns-in-Err-take g c =
+    let (cs, so_far, judged, read_on, begun) = c.loop-contents.invariant in
+    let next = rw c.in-Ok-Content.field-0-is at c.in-Ok-Content.ensures in
+    comes-memory _ _ c.args.max_lines _ _ (read_on_both _ _ _ _ read_on next.device) c.in-Err-take.fault c.in-Err-take.ensures.memory
 
 pub returns-in-Ok-Overlong : goal.returns-in-Ok-Overlong
 returns-in-Ok-Overlong g c =
@@ -52,10 +62,7 @@ returns-in-Ok-Overlong g c =
           (some_has_here cs long BadLength own) now.reported;
       fault = of_any _ _ (λ bytes. tt);
       answers = tt;
-      source = (
-        ⊎_elim (λ none. sym read_on.going ∙ next.fresh none) (λ begun. begun) begun,
-        read_on_both _ _ _ _ read_on next.device,
-      );
+      source = (⊎_elim (λ none. sym read_on.going ∙ next.fresh none) (λ begun. begun) begun, read_on_both _ _ _ _ read_on next.device);
       end = λ whole. absurd whole;
     }
 
