@@ -30,10 +30,10 @@ module _ {B : Type 0} (r : Permanent B) where
     -- form 1: in each of its weeks the record applies on each weekday in its mask
     module _ (a : IsAlignedOne window r) where
       least : (w : ℕ) → RunsOn r.days w → weekday_of r.first ≤ w
-      least w on = elim (cases_lt w (weekday_of r.first)) [ | inl sooner ↦ absurd (a.least.none_before w sooner on) | inr h ↦ h ]
+      least w on = elim (cases_lt w (weekday_of r.first)) [ inl sooner ↦ absurd (a.least.none_before w sooner on) | inr h ↦ h ]
 
       greatest : (w : ℕ) → RunsOn r.days w → w ≤ weekday_of r.last
-      greatest w on = elim (cases_lt (weekday_of r.last) w) [ | inl later ↦ absurd (a.greatest.none_after w later on) | inr h ↦ h ]
+      greatest w on = elim (cases_lt (weekday_of r.last) w) [ inl later ↦ absurd (a.greatest.none_after w later on) | inr h ↦ h ]
 
       full_one : (n : ℕ) → IsWeekOf r (week_of n) → RunsOn r.days (weekday_of n) → Applies r n
       full_one n week on = record {

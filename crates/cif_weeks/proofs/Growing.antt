@@ -34,7 +34,7 @@ module _ {B : Type 0} (window : Window) (on : ℕ → Type 0) (inside : (n : ℕ
       (seven : length both ≡ 7) (union : (w : ℕ) → RunsOn both w ↔ (RunsOn r.days w ⊎ RunsOn next w)) where
     -- form 1: the weekdays of the record's mask are those of the next week's
     one_both : MasksAgree One window week r.days next → (w : ℕ) → RunsOn both w → RunsOn r.days w
-    one_both agree w has = elim ((union w).0 has) [ | inl h ↦ h | inr h ↦ (agree w (RunsOn-below next w k.seven h) tt).1 h ]
+    one_both agree w has = elim ((union w).0 has) [ inl h ↦ h | inr h ↦ (agree w (RunsOn-below next w k.seven h) tt).1 h ]
 
     -- form 2: the weekdays of the next week's mask are right in the record's weeks, and those of the record's in the next week
     module _ (g : IsGrown Two window on r) (agree : MasksAgree Two window week r.days next) where

@@ -45,7 +45,7 @@ module _ {B : Type 0} (form : Form) (window : Window) (runs_on : B → ℕ → T
           | inr h ↦ absurd (h.apart (week_of n) (week_of-applies r n on_r) (week_of-applies s n on_s))
         ];
     aligned = m.aligned;
-    separate = λ r s in_r in_s two same. elim (one_or_separate r s in_r in_s same) [ | inl one ↦ absurd (two one) | inr h ↦ h ];
+    separate = λ r s in_r in_s two same. elim (one_or_separate r s in_r in_s same) [ inl one ↦ absurd (two one) | inr h ↦ h ];
   }
 
   -- and say what runs

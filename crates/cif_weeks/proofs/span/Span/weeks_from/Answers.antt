@@ -31,6 +31,6 @@ returns c =
             | else-week-self-3-via-then-week-self-3+else-not-is w ↦ w.is.ensures.0 w.if-not-is.false
             | else-week-self-3-via-else-week-self-3 w ↦ absurd (w.if-week-self-3.false (omega arith))
           ])
-          (λ last. elim c.if-is.branch [ | then-is w ↦ c.is-2.ensures.0 w.if-is.true | else-is w ↦ absurd (omega arith) ])
+          (λ last. elim c.if-is.branch [ then-is w ↦ c.is-2.ensures.0 w.if-is.true | else-is w ↦ absurd (omega arith) ])
           (λ later sooner. refl);
     }
