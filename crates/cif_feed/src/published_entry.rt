@@ -111,7 +111,7 @@ impl PublishedEntry for PublishedAssociation {
 
     ghost published = { published_association_terms };
 
-    // It has no code.
+    // No association has a code.
     fn clash_dates(
         alloc: Global,
         entries: &[PublishedAssociation],
