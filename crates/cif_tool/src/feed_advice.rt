@@ -33,7 +33,7 @@ pub(crate) struct DonePrepareJob<'a, 'h, 'b> {
     /// What became of the output.
     pub(crate) written: &'a OutputState,
     // Lent for as long as the extract, it would be more than the borrow checker covers.
-    pub(crate) holidays: Option<&'h ExtractInput<'b>>,
+    pub(crate) holidays: Option<&'h Source<ExtractInput<'b>>>,
     pub(crate) extract: &'a ExtractInput<'b>,
 }
 
@@ -83,7 +83,8 @@ impl DonePrepareJob<'_, '_, '_> {
         };
         match self.holidays {
             Some(holidays) if !self.extract.is_touched() => {
-                holidays.add_feed_fault(fault, reader, self.written, message);
+                let input = holidays.reader();
+                input.add_feed_fault(fault, reader, self.written, message);
             }
             _ => self
                 .extract

@@ -180,18 +180,19 @@ impl ExtractInput<'_> {
         message: &mut Message,
     ) {
         self.add_name(message);
-        let format = match number {
-            1 => other_format(self.start.as_slice()),
-            _ => None,
-        };
-        match (format, why) {
-            (Some(format), _) => message.line(format_args!("the input looks like {format}")),
-            (None, Refusal::Truncated) if self.start.is_empty() => message.line(EMPTY),
-            (None, Refusal::Truncated) => message.line("the input ends before its trailer, ZZ"),
-            (None, Refusal::TooManyLines) => {
+        if number == 1
+            && let Some(format) = other_format(self.start.as_slice())
+        {
+            message.line(format_args!("the input looks like {format}"));
+            return;
+        }
+        match why {
+            Refusal::Truncated if self.start.is_empty() => message.line(EMPTY),
+            Refusal::Truncated => message.line("the input ends before its trailer, ZZ"),
+            Refusal::TooManyLines => {
                 message.line(format_args!("an extract has at most {MAX_LINES} lines"));
             }
-            (None, _) => {
+            _ => {
                 let line = self.line_again(message.alloc, number);
                 if let Some(line) = &line {
                     line.add_to(why, reader, message);

@@ -27,6 +27,16 @@ pub struct InputNames {
     pub rest: Vec<String>,
 }
 
+impl InputNames {
+    /// The one that is read last.
+    pub(crate) fn last(&self) -> &str {
+        match self.rest.last() {
+            Some(name) => name.as_str(),
+            None => self.first.as_str(),
+        }
+    }
+}
+
 /// What a command is asked for.
 #[derive(Clone, Copy)]
 pub enum Task {

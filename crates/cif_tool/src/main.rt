@@ -151,8 +151,7 @@ fn prepare(
     let alloc = rt.alloc();
     let verbosity = Verbosity::of(rt, request.verbose);
     let mut holidays = source_of_holidays(rt, &request.inputs, verbosity);
-    let file = request.inputs.rest.first().unwrap_or(&request.inputs.first);
-    let mut source = boxed_source(rt, "", file.as_str(), verbosity)?;
+    let mut source = boxed_source(rt, "", request.inputs.last(), verbosity)?;
     let mut written = OutputState::new();
     let mut output = standard_output(rt, &mut written)?;
     let ended = run_prepare(alloc, job, &mut holidays, &mut *source, &mut output, errors);
@@ -162,7 +161,7 @@ fn prepare(
             verbosity,
             job,
             written: &written,
-            holidays: holidays.as_ref().map(Source::reader),
+            holidays: holidays.as_ref(),
             extract: source.reader(),
         };
         done_job.advise(alloc, &ended.answer, &ended.kept, errors);
