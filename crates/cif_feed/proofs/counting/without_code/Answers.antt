@@ -1,6 +1,6 @@
 -- One position more is there, unless its entry has the code (`also-more`, `also-passed`).
-use Rattle.cif_feed.proofs.Names.{All-contains, Contains-get_or, Contains-none, HasCodeAt, List, [], false, false≢true, get_or, take_all, ◌≡◌}
-use Rattle.cif_feed.proofs.Names.{get_or_default, inr, length, published_schedule_terms, rules, subst, sym, true, ℕ, ⊎_elim, ◌<◌, ◌∙◌}
+use Rattle.cif_feed.proofs.Names.{All-contains, Contains-get_or, Contains-none, HasCodeAt, List, [], false, false≢true, get_or, true, ◌≡◌}
+use Rattle.cif_feed.proofs.Names.{get_or_default, inr, length, published_schedule_terms, rules, subst, sym, take_all, ℕ, ⊎_elim, ◌<◌, ◌∙◌}
 use Rattle.cif_feed.proofs.CountedClashes.{AreAlso, also-more, also-passed, code-here}
 use Rattle.cif_feed.proofs.counting.without_code.Goals as goal
 use Rattle.cif_feed.proofs.counting.without_code.Goals.{After-loop-position, else-not-is_of, then-not-is_of+in_ok-push}
