@@ -2,9 +2,9 @@
 use Rattle.cif_feed.proofs.Names.{Aa, Association, Basic, Bool, Bs, Err, Feed, Full, Hd, HolidayCode, HolidayCodes, IsOwn, IsRecordTaken}
 use Rattle.cif_feed.proofs.Names.{Kind, List, MarkParts, None, Ok, Option, Progress, Record, Result, Some, SpellsAssociationBy}
 use Rattle.cif_feed.proofs.Names.{SpellsBasicBy, SpellsInFeed, StandsIn, Ta, TakeFault, Td, Ti, Transaction, [], and-false, ap, append-nil}
-use Rattle.cif_feed.proofs.Names.{code_of, code_value, columns, false, feed_refusal_as, is_basic, is_deleted, is_new, is_open, is_revised}
-use Rattle.cif_feed.proofs.Names.{is_some, is_trailer, kind_in, kind_of, kind_read_as, not, plus_if, refl, slice_index, subst, sym}
-use Rattle.cif_feed.proofs.Names.{transaction_at, with_line, ℕ, ◌&&◌, ◌++◌, ◌==◌, ◌∙◌, ◌∷◌, ◌≡◌}
+use Rattle.cif_feed.proofs.Names.{code_of, code_value, columns, false, false≢true, feed_refusal_as, is_basic, is_deleted, is_new, is_open}
+use Rattle.cif_feed.proofs.Names.{is_revised, is_some, is_trailer, kind_in, kind_of, kind_read_as, not, plus_if, refl, slice_index, subst}
+use Rattle.cif_feed.proofs.Names.{sym, transaction_at, true, with_line, ℕ, ◌&&◌, ◌++◌, ◌==◌, ◌∙◌, ◌∷◌, ◌≡◌}
 use Rattle.std.{proofs.Math.Bool.and-true, specs.Result.IsErrAnd}
 use Rattle.cif_records.specs.declared.record.Kind.TheVariants.{Zz}
 use Rattle.cif_records.specs.declared.record.Record.TheVariants as of
@@ -23,6 +23,22 @@ coded None cs s = rw s refl
 coded (Some X) cs s = rw s refl
 coded (Some E) cs s = rw s refl
 coded (Some G) cs s = rw s refl
+
+-- A kind of which no list is kept is none of those. (A search where a line's record is known takes a second for each.)
+abbrev is_listed : Kind → Bool
+is_listed Ti = true
+is_listed Aa = true
+is_listed Bs = true
+is_listed _ = false
+
+apart : (k j : Kind) → is_listed k ≡ false → is_listed j ≡ true → k ≡ j → ⊥
+apart k j none listed is = false≢true (sym none ∙ ap is_listed is ∙ listed)
+
+association-apart : Aa ≡ Ti → ⊥
+association-apart e = cc
+
+schedule-apart : Bs ≡ Ti → ⊥
+schedule-apart e = cc
 
 module _ (allowed : HolidayCodes) (number : ℕ) (c : List ℕ) (m : MarkParts) where
   abbrev line : ℕ × List ℕ
@@ -117,9 +133,10 @@ module _ (allowed : HolidayCodes) (number : ℕ) (c : List ℕ) (m : MarkParts) 
 
         at : (r : Record) → SpellsInFeed feed allowed c r → kind_read_as feed (kind_in c) ≡ Some (kind_of r) → IsMarked (kind_in c)
         at (of.Tiploc t) s is = tiploc feed (kind_in c) is
-        at (of.Association a) s is = by Aa (λ e. cc) is (association_named a (transaction_at feed c) refl s)
-        at (of.Basic b) s is = by Bs (λ e. cc) is (basic_named b (transaction_at feed c) refl s)
-        at r s is = by (kind_of r) (λ e. cc) is (other (kind_of r) (λ e. cc) (λ e. cc))
+        at (of.Association a) s is = by Aa association-apart is (association_named a (transaction_at feed c) refl s)
+        at (of.Basic b) s is = by Bs schedule-apart is (basic_named b (transaction_at feed c) refl s)
+        at r s is = by (kind_of r) (apart (kind_of r) Ti refl refl) is
+            (other (kind_of r) (apart (kind_of r) Aa refl refl) (apart (kind_of r) Bs refl refl))
 
 -- ---- what `?` hands on
 
