@@ -1,7 +1,7 @@
 //! The clash dates of published schedules, which don't count on the holidays of their codes.
 ghost use Rattle.std.specs.Prelude.{◌≡◌, ◌<◌, ◌+◌, ◌⊎◌, ◌↔◌, ℕ, All, Contains, IfOk, IsTrue, Some, length};
 ghost use Rattle.cif_feed.specs.{Holidays.IsHoliday, PublishedParts.published_schedule_terms};
-ghost use Rattle.cif_feed.specs.Steps.Counting.{AreClashDatesOn, AreMerged, CountsAmong, HasCodeAt, code_list};
+ghost use Rattle.cif_feed.specs.Steps.Counting.{AreClashDatesOn, AreMerged, CountsAmong, HasCodeAt};
 
 use crate::{HolidayCode, Holidays, PublishedSchedule};
 use cif_calendar::{Window, clash_dates};
@@ -9,27 +9,10 @@ use cif_columns::Day;
 use std::alloc::{AllocError, Global};
 
 /// The dates of the window on which two winners have different bodies, by the schedules at `members`, each of which
-/// doesn't count on the holidays of its code. They rise.
+/// doesn't count on the holidays of its code, if that is one of `codes`. They rise.
 ///
 /// The time is that of `cif_calendar::clash_dates`: no schedule is cut at its holidays, of which there may be many.
-pub(crate) fn counted_clash_dates(
-    alloc: Global,
-    schedules: &[PublishedSchedule],
-    members: &[usize],
-    holidays: &Holidays,
-    window: &Window,
-) -> Result<Vec<Day>, AllocError>
-    requires { All (λ i. i < length schedules.now) members.now }
-    ensures { IfOk result (λ days. AreClashDatesOn
-        (CountsAmong holidays.now published_schedule_terms schedules.now members.now code_list)
-        window.now.first (window.now.last + 1) days.items) }
-{
-    let codes = [HolidayCode::X, HolidayCode::E, HolidayCode::G];
-    clash_dates_by(alloc, schedules, members, &codes, holidays, window)
-}
-
-/// The dates of the window on which winners clash, where the holidays of these codes alone matter.
-fn clash_dates_by(
+pub(crate) fn clash_dates_by(
     alloc: Global,
     schedules: &[PublishedSchedule],
     members: &[usize],

@@ -2,8 +2,8 @@
 ghost use Rattle.std.specs.Prelude.{◌≡◌, ◌<◌, ◌+◌, All, IfOk, length};
 ghost use Rattle.cif_feed.specs.Steps.Counting.{AreClashDatesOn, CountsAmong, code_list};
 
-use crate::counting::counted_clash_dates;
-use crate::{Holidays, PublishedAssociation, PublishedSchedule};
+use crate::counting::clash_dates_by;
+use crate::{HolidayCode, Holidays, PublishedAssociation, PublishedSchedule};
 use cif_calendar::{Entry, NamedEntry, RankedEntry, Window, clash_dates};
 use cif_columns::{Day, DaysRun, Stp, Uid};
 use cif_extract::{Body, Clash};
@@ -208,7 +208,8 @@ impl PublishedEntry for PublishedSchedule {
         holidays: &Holidays,
         window: &Window,
     ) -> Result<Vec<Day>, AllocError> {
-        counted_clash_dates(alloc, entries, members, holidays, window)
+        let codes = [HolidayCode::X, HolidayCode::E, HolidayCode::G];
+        clash_dates_by(alloc, entries, members, &codes, holidays, window)
     }
 
     ghost own_terms = { λ s. refl };

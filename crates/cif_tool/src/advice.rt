@@ -105,7 +105,10 @@ impl DoneJob<'_, '_> {
             Fault::Read => last.add_read_failure(message),
             Fault::Write => self.written.add_failure(message),
             Fault::Ambiguous(clash) => {
-                let _ = self.add_clash(clash, kept, message);
+                // The left one is looked at first, as `compare` and `differences` do.
+                if !self.left.add_records(clash, &mut kept.left, message) {
+                    self.right.add_records(clash, &mut kept.right, message);
+                }
                 message.line(CLASHES);
             }
             Fault::Memory => {}
@@ -118,20 +121,6 @@ impl DoneJob<'_, '_> {
             (Some(left), Some(right)) => left.last < right.first || right.last < left.first,
             _ => false,
         }
-    }
-
-    /// Adds which records clash, and of which input: the left one is looked at first, as `compare` and
-    /// `differences` do. Whether one has the clash; Memory where that isn't known.
-    fn add_clash(
-        &self,
-        clash: &Clash,
-        kept: &mut Kept,
-        message: &mut Message,
-    ) -> Result<bool, Fault> {
-        if self.left.add_records(clash, &mut kept.left, message)? {
-            return Ok(true);
-        }
-        self.right.add_records(clash, &mut kept.right, message)
     }
 }
 

@@ -44,34 +44,7 @@ enum Device {
     Ended,
 }
 
-impl<'a> ExtractInput<'a> {
-    /// The file of this name, or the standard input where it is `-`. With help that may show one of its lines, what
-    /// is read last of the standard input is kept.
-    // Inlined, it would keep copies of an input on the stack of its caller, and each is some kilobytes large.
-    #[inline(never)]
-    pub(crate) fn of(
-        rt: HostRuntime,
-        side: &'static str,
-        file: &'a str,
-        verbosity: Verbosity,
-    ) -> Self {
-        let is_standard = is_standard(file);
-        ExtractInput {
-            rt,
-            side,
-            name: if is_standard { "standard input" } else { file },
-            // Made in place: it is some kilobytes large, and lives in the frame of `main`.
-            device: if is_standard {
-                Device::Unlocked
-            } else {
-                Device::Closed
-            },
-            start: ArrayVec::new(),
-            last: (is_standard && verbosity.helps()).then(|| LastRead::new(rt.alloc())),
-            failure: None,
-        }
-    }
-
+impl ExtractInput<'_> {
     /// Whether it was read.
     pub(crate) fn is_touched(&self) -> bool {
         match self.device {
@@ -227,15 +200,13 @@ pub(crate) struct OutputState {
     pub(crate) failure: Option<i32>,
 }
 
-impl OutputState {
-    /// Nothing was written yet.
-    pub(crate) fn new() -> Self {
-        OutputState {
-            lines: 0,
-            failure: None,
-        }
-    }
+/// Of an output to which nothing was written yet.
+pub(crate) const NOTHING_WRITTEN: OutputState = OutputState {
+    lines: 0,
+    failure: None,
+};
 
+impl OutputState {
     /// Counts the lines in these bytes.
     fn count(&mut self, bytes: &[u8]) {
         for byte in bytes {
@@ -291,29 +262,22 @@ const MOST_COMMENTS: u64 = 100;
 /// The bytes of output that are gathered before they are written.
 const OUTPUT_BUFFER: usize = 65_536;
 
-/// A sink that gathers what goes to the output; Memory comes where there is none for it. It isn't dropped: a
-/// buffer that is dropped writes what it holds, also after a failure.
-pub(crate) fn buffered<W: WriteDevice + Drop>(
-    alloc: Global,
-    output: W,
-) -> Result<ManuallyDrop<Sink<BufWriter<W>>>, Fault> {
-    match BufWriter::with_capacity(alloc, OUTPUT_BUFFER, output) {
-        Ok(output) => Ok(ManuallyDrop::new(Sink::new(output))),
-        Err(_) => Err(Fault::Memory),
-    }
-}
-
-/// The standard output, gathered, of which `written` says what became of it.
+/// A sink that gathers what goes to the standard output, of which `written` says what became of it; Memory comes where
+/// there is none for it. It isn't dropped: a buffer that is dropped writes what it holds, also after a failure.
 pub(crate) fn standard_output<'a>(
     rt: HostRuntime,
     written: &'a mut OutputState,
 ) -> Result<ManuallyDrop<Sink<BufWriter<Output<'a>>>>, Fault> {
     let writer = rt.stdout();
-    buffered(rt.alloc(), Output { writer, written })
+    match BufWriter::with_capacity(rt.alloc(), OUTPUT_BUFFER, Output { writer, written }) {
+        Ok(output) => Ok(ManuallyDrop::new(Sink::new(output))),
+        Err(_) => Err(Fault::Memory),
+    }
 }
 
-/// The input of this name; `side` says which it is.
-// Inlined, it would keep a second input on the stack of its caller, and each is some kilobytes large.
+/// The file of this name, or the standard input where it is `-`; `side` says which input it is. With help that may show
+/// one of its lines, what is read last of the standard input is kept.
+// Inlined, it would keep copies of an input on the stack of its caller, and each is some kilobytes large.
 #[inline(never)]
 pub(crate) fn source_of<'a>(
     rt: HostRuntime,
@@ -321,7 +285,21 @@ pub(crate) fn source_of<'a>(
     file: &'a str,
     verbosity: Verbosity,
 ) -> Source<ExtractInput<'a>> {
-    Source::new(ExtractInput::of(rt, side, file, verbosity))
+    let is_standard = is_standard(file);
+    Source::new(ExtractInput {
+        rt,
+        side,
+        name: if is_standard { "standard input" } else { file },
+        // Made in place: it is some kilobytes large, and lives in the frame of `main`.
+        device: if is_standard {
+            Device::Unlocked
+        } else {
+            Device::Closed
+        },
+        start: ArrayVec::new(),
+        last: (is_standard && verbosity.helps()).then(|| LastRead::new(rt.alloc())),
+        failure: None,
+    })
 }
 
 /// The input of this name on the heap, since a small stack has no room for two.

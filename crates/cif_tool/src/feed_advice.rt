@@ -202,7 +202,7 @@ impl ExtractInput<'_> {
                 self.add_column(*line, 3, "must be N, R or D", message);
             }
             FeedFault::BadHoliday { line } => self.add_holiday_line(*line, message),
-            // What doesn't fit is said with the extract, by `add_unfit` and `add_out_of_sequence`.
+            // What doesn't fit is said with the extract, by `add_unfit` and `add_references`.
             FeedFault::NotThere { line: _ }
             | FeedFault::AlreadyThere { line: _ }
             | FeedFault::OutOfSequence { line: _ } => {}
@@ -231,8 +231,9 @@ impl ExtractInput<'_> {
         }
     }
 
-    /// Adds the references of an update that doesn't follow the extract that those before it have left.
-    fn add_references(&self, line: u64, kept: &KeptUpdate, message: &mut Message) {
+    /// Adds the line of an update's header that doesn't follow the extract that those before it have left, and their
+    /// references.
+    fn add_references(&self, number: u64, kept: &KeptUpdate, message: &mut Message) {
         let before = match kept.done.last() {
             Some(done) => Some(&done.header),
             None => kept.full.as_ref().map(|full| &full.header),
@@ -241,8 +242,14 @@ impl ExtractInput<'_> {
         if let Some(before) = before
             && let Some(extract) = &kept.extract
         {
-            let last = last_reference(&extract.header);
-            self.add_out_of_sequence(line, &last, &current_reference(before), message);
+            self.add_shown(number, message);
+            let last = shown::<LINE_WIDTH>(&last_reference(&extract.header));
+            let current = shown::<LINE_WIDTH>(&current_reference(before));
+            message.line(format_args!(
+                "its last reference is [{last}], and the extract's current reference is [{current}]"
+            ));
+            message.line("an update was left out or done twice, or is of another feed");
+            message.line(LENIENT);
         }
     }
 
@@ -263,24 +270,6 @@ impl ExtractInput<'_> {
         if self.add_shown(number, message).is_some() {
             message.add_columns(column, column, what);
         }
-    }
-
-    /// Adds what helps with the line of an update's header that doesn't follow an extract with this current reference.
-    fn add_out_of_sequence(
-        &self,
-        number: u64,
-        last: &[u8; 7],
-        current: &[u8; 7],
-        message: &mut Message,
-    ) {
-        self.add_shown(number, message);
-        let last = shown::<LINE_WIDTH>(last);
-        let current = shown::<LINE_WIDTH>(current);
-        message.line(format_args!(
-            "its last reference is [{last}], and the extract's current reference is [{current}]"
-        ));
-        message.line("an update was left out or done twice, or is of another feed");
-        message.line(LENIENT);
     }
 
     /// Adds what is wrong with this line of holidays.

@@ -130,13 +130,6 @@ fn refuse<W: WriteDevice>(fault: &FeedFault, errors: &mut Sink<W>) -> u8
     ensures reported { IsAppended W.contents W.write_errors (refused_line fault.now) errors.old errors.new }
 {
     append(refused_line(fault).as_str(), errors);
-    feed_status(fault)
-}
-
-/// The status of a fault.
-fn feed_status(fault: &FeedFault) -> u8
-    ensures { result ≡ feed_status_of fault.now }
-{
     match fault {
         FeedFault::Extract(fault) => status(fault),
         _ => REFUSED,

@@ -5,7 +5,7 @@ use crate::line_advice::Reader;
 use crate::line_again::LineAgain;
 use crate::message::Message;
 use cif_columns::{MAX_LINES, Refusal, Sink, as_text};
-use cif_extract::{Clash, Extract, Fault};
+use cif_extract::{Clash, Extract};
 use cif_feed::Reasons;
 use cif_records::Header;
 use cif_views::explain_view;
@@ -84,16 +84,16 @@ impl ExtractInput<'_> {
         Some(line)
     }
 
-    /// Adds which records of the clash's key clash in this extract, and says whether any do. The extract is left
-    /// with the records of this key alone.
+    /// Adds which records of the clash's key clash in this extract, and says whether any do, or memory ran out. The
+    /// extract is left with the records of this key alone.
     pub(crate) fn add_records(
         &self,
         clash: &Clash,
         kept: &mut Option<Extract>,
         message: &mut Message,
-    ) -> Result<bool, Fault> {
+    ) -> bool {
         let Some(extract) = kept else {
-            return Ok(false);
+            return false;
         };
         let mut view = Sink::new(Vec::new(message.alloc));
         let (uid, day) = match clash {
@@ -108,8 +108,8 @@ impl ExtractInput<'_> {
                 (uid, *day)
             }
         };
-        explain_view(message.alloc, extract, uid, day, &mut view)?;
-        Ok(self.add_clashing(view.writer().as_slice(), message))
+        explain_view(message.alloc, extract, uid, day, &mut view).is_err()
+            || self.add_clashing(view.writer().as_slice(), message)
     }
 
     /// Adds those lines of an explanation that are marked as clashes; whether there are any.
@@ -148,27 +148,17 @@ impl ExtractInput<'_> {
             Refusal::UnknownRecord,
             Refusal::BankHoliday,
         ] {
-            if let Some(command) = self.command_for_first(message.alloc, reasons, why) {
+            if reasons.lines(why) == 0 {
+                continue;
+            }
+            let line = self.line_again(message.alloc, reasons.first(why));
+            if let Some(command) = self.command_for(message.alloc, line.as_ref(), why) {
                 if command != reported {
                     message.line(command);
                 }
                 reported = command;
             }
         }
-    }
-
-    /// The command that accepts the first line with this reason, if one has it.
-    fn command_for_first(
-        &self,
-        alloc: Global,
-        reasons: &Reasons,
-        why: Refusal,
-    ) -> Option<&'static str> {
-        if reasons.lines(why) == 0 {
-            return None;
-        }
-        let line = self.line_again(alloc, reasons.first(why));
-        self.command_for(alloc, line.as_ref(), why)
     }
 
     /// Adds what is wrong with the line of this number.

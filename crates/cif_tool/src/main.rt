@@ -21,9 +21,7 @@ mod words;
 
 use crate::advice::DoneJob;
 use crate::answers::run_job;
-use crate::devices::{
-    ExtractInput, OutputState, boxed_source, buffered, source_of, standard_output,
-};
+use crate::devices::{ExtractInput, NOTHING_WRITTEN, boxed_source, source_of, standard_output};
 use crate::feed_advice::{DonePrepareJob, DoneUpdateJob};
 use crate::feed_run::{run_prepare, run_update};
 use crate::job::{
@@ -44,15 +42,10 @@ use std::{env, io};
 const NOT_TEXT: &str =
     "error: an argument isn't valid UTF-8\n\nFor more information, try '--help'.\n";
 
+/// Does what the words of the process ask for. Fault lines go to `errors`; that one can't be written changes no status.
 fn main(rt: HostRuntime) -> ExitCode {
-    ExitCode::from(run(rt))
-}
-
-/// Does what the words of the process ask for, and returns the status to exit with. Fault lines go
-/// to `errors`; that one can't be written changes no status.
-fn run(rt: HostRuntime) -> u8 {
     let mut errors = Sink::new(rt.stderr());
-    match words_of(rt) {
+    ExitCode::from(match words_of(rt) {
         Ok(words) => run_words(rt, words, &mut errors),
         Err(error) => {
             if error.kind() == ErrorKind::OutOfMemory {
@@ -62,7 +55,7 @@ fn run(rt: HostRuntime) -> u8 {
                 USAGE_ERROR
             }
         }
-    }
+    })
 }
 
 /// Does what these words ask for, and returns the status to exit with.
@@ -84,14 +77,14 @@ fn run_words(rt: HostRuntime, words: Vec<String>, errors: &mut Sink<Stderr>) -> 
 // Inlined, it would keep its faults on the stack while the task is done.
 #[inline(never)]
 fn refused(rt: HostRuntime, fault: JobFault, errors: &mut Sink<Stderr>) -> u8 {
-    let alloc = rt.alloc();
-    let status = match buffered(alloc, rt.stdout()) {
+    let mut written = NOTHING_WRITTEN;
+    let status = match standard_output(rt, &mut written) {
         Ok(mut output) => run_fault(&fault, &mut output, errors),
         Err(fault) => end(&Err(fault), errors),
     };
     if let Ok(words) = words_of(rt) {
         let verbosity = Verbosity::of(rt, false);
-        advise_on_word(alloc, words.as_slice(), &fault, verbosity, errors);
+        advise_on_word(rt.alloc(), words.as_slice(), &fault, verbosity, errors);
     }
     status
 }
@@ -119,7 +112,7 @@ fn answer_job(
     let verbosity = Verbosity::of(rt, request.verbose);
     let mut left = boxed_source(rt, side, request.inputs.first.as_str(), verbosity)?;
     let mut right = boxed_source(rt, "RIGHT", right_file, verbosity)?;
-    let mut written = OutputState::new();
+    let mut written = NOTHING_WRITTEN;
     let mut output = standard_output(rt, &mut written)?;
     let ended = run_job(alloc, job, &mut *left, &mut *right, &mut output, errors);
     // The process ends after this: the system takes back the memory of all bodies at once.
@@ -152,7 +145,7 @@ fn prepare(
     let verbosity = Verbosity::of(rt, request.verbose);
     let mut holidays = source_of_holidays(rt, &request.inputs, verbosity);
     let mut source = boxed_source(rt, "", request.inputs.last(), verbosity)?;
-    let mut written = OutputState::new();
+    let mut written = NOTHING_WRITTEN;
     let mut output = standard_output(rt, &mut written)?;
     let ended = run_prepare(alloc, job, &mut holidays, &mut *source, &mut output, errors);
     let ended = ManuallyDrop::new(ended);
@@ -192,7 +185,7 @@ fn update(
     let verbosity = Verbosity::of(rt, request.verbose);
     let mut full = boxed_source(rt, "FULL", request.inputs.first.as_str(), verbosity)?;
     let mut updates = updates_of(rt, &request.inputs, verbosity)?;
-    let mut written = OutputState::new();
+    let mut written = NOTHING_WRITTEN;
     let mut output = standard_output(rt, &mut written)?;
     let ended = run_update(
         alloc,

@@ -43,7 +43,8 @@ static TABLE: [(Refusal, &str, usize, usize); 30] = [
 /// The first and the last column for which the line is refused, and what must stand there.
 pub(crate) fn columns_refused(line: &[u8], why: Refusal) -> Option<(usize, usize, &'static str)> {
     if why == Refusal::BadByte {
-        let column = bad_byte(line)?;
+        let before = line.iter().position(|byte| !is_printable(*byte))?;
+        let column = before.saturating_add(1);
         return Some((column, column, "a byte is 0x20 to 0x7E"));
     }
     for (reason, kind, first, last) in &TABLE {
@@ -95,12 +96,6 @@ fn must_stand(kind: &str, why: Refusal, width: usize) -> &'static str {
     }
 }
 
-/// The column of the first byte that isn't printable.
-fn bad_byte(line: &[u8]) -> Option<usize> {
-    let before = line.iter().position(|byte| !is_printable(*byte))?;
-    Some(before.saturating_add(1))
-}
-
 /// The first and the last column of the first word of a line of holidays, shown up to its remark, that is
 /// neither its code nor a date, and what must stand there.
 pub(crate) fn holiday_refused(line: &str) -> Option<(usize, usize, &'static str)> {
@@ -110,7 +105,9 @@ pub(crate) fn holiday_refused(line: &str) -> Option<(usize, usize, &'static str)
         let last = before.saturating_add(word.len());
         if !word.is_empty() {
             let first = before.saturating_add(1);
-            if is_first && !is_code(word.as_bytes()) {
+            let is_code =
+                matches!(word.as_bytes(), [letter] if HolidayCode::read(*letter).is_some());
+            if is_first && !is_code {
                 return Some((first, last, "a code is X, E or G"));
             }
             if !is_first && day_of_word(word).is_none() {
@@ -121,9 +118,4 @@ pub(crate) fn holiday_refused(line: &str) -> Option<(usize, usize, &'static str)
         before = last.saturating_add(1);
     }
     None
-}
-
-/// Whether the word is a holiday code.
-fn is_code(word: &[u8]) -> bool {
-    matches!(word, [letter] if HolidayCode::read(*letter).is_some())
 }

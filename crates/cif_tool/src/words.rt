@@ -170,7 +170,8 @@ fn named_job(name: &str, matches: &ArgMatches<'_>) -> Result<Job, JobFault>
         })),
         _ => {
             let asked = asked_of(matches)?;
-            let canonical = canonical_job(asked, matches);
+            let form = form_of(matches);
+            let canonical = CanonicalJob { asked, form };
             match name {
                 "normalise" => Ok(Job::Normalise(canonical)),
                 "check" if has_flag(matches, "all") => Ok(Job::CheckAll(canonical)),
@@ -188,17 +189,6 @@ fn named_job(name: &str, matches: &ArgMatches<'_>) -> Result<Job, JobFault>
                 _ => Err(JobFault::NoCommand),
             }
         }
-    }
-}
-
-/// The window that is asked for, with the form that the words name.
-fn canonical_job(asked: Asked, matches: &ArgMatches<'_>) -> CanonicalJob
-    ensures { (result.asked ≡ asked)
-        × (result.form ≡ form_of (first_of (codes "form") (rows_of (found_of matches.now)))) }
-{
-    CanonicalJob {
-        asked,
-        form: form_of(matches),
     }
 }
 
@@ -256,25 +246,16 @@ fn share_standard(inputs: &InputNames) -> bool
     ensures shared { (result ≡ true) → 1 < standard_inputs (names_of inputs.now) }
     ensures alone { (result ≡ false) → standard_inputs (names_of inputs.now) ≤ 1 }
 {
-    let count = standard_inputs(inputs.rest.as_slice());
-    if is_standard(inputs.first.as_str()) {
-        0 < count
-    } else {
-        1 < count
-    }
-}
-
-/// How many of the names stand for the standard input.
-fn standard_inputs(names: &[String]) -> usize
-    ensures { result ≡ standard_inputs (map string_bytes names.now) }
-{
-    let mut count = 0;
-    for name in names {
+    let mut found = is_standard(inputs.first.as_str());
+    for name in &inputs.rest {
         if is_standard(name.as_str()) {
-            count += 1;
+            if found {
+                return true;
+            }
+            found = true;
         }
     }
-    count
+    false
 }
 
 /// Which inputs the subcommand of this name reads, where it reads several.
@@ -371,9 +352,9 @@ fn uid_of(matches: &ArgMatches<'_>) -> Result<Uid, JobFault>
     ensures err { IfErr result (λ fault. (fault ≡ JobFault.BadUid)
         × IsNoUid (required_word (codes "UID") (rows_of (found_of matches.now)))) }
 {
-    match uid_of_word(required_word(matches, "UID")) {
-        Some(uid) => Ok(uid),
-        None => Err(JobFault::BadUid),
+    match <[u8; 6]>::try_from(required_word(matches, "UID").as_bytes()) {
+        Ok(columns) if are_printable(&columns) => Ok(Uid::read(&columns)),
+        _ => Err(JobFault::BadUid),
     }
 }
 
@@ -438,15 +419,5 @@ pub(crate) fn day_of_word(word: &str) -> Option<Day>
     match <[u8; 6]>::try_from(word.as_bytes()) {
         Ok(columns) => Day::from_yymmdd(&columns),
         Err(_) => None,
-    }
-}
-
-/// The UID of six bytes from 0x20 to 0x7E.
-fn uid_of_word(word: &str) -> Option<Uid>
-    ensures { MatchOption result (IsNoUid word.now) (IsUidWord word.now) }
-{
-    match <[u8; 6]>::try_from(word.as_bytes()) {
-        Ok(columns) if are_printable(&columns) => Some(Uid::read(&columns)),
-        _ => None,
     }
 }

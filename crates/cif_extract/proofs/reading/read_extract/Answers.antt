@@ -1,7 +1,8 @@
 -- The invariant names the lines so far: one more (`come_more`), one refused (`at_line`) and the end are said of them all.
-use Rattle.cif_extract.proofs.Names.{[], arith, given, known_both, length, nothing_left, progress_of, read_on_both, reading_decides}
-use Rattle.cif_extract.proofs.Names.{reading_ends, reading_faults, reading_line, refl, rules, subst, sym, ◌++◌, ◌+◌, ◌<◌, ◌∙◌, ◌∷◌, ◌≡◌}
-use Rattle.cif_extract.{proofs.Names.◌≤◌, proofs.FirstRefusals.at_line, proofs.ReadCalls.at-fault}
+use Rattle.std.specs.Result.{is_ok}
+use Rattle.cif_extract.proofs.Names.{[], ap, arith, given, known_both, length, nothing_left, progress_of, read_on_both, reading_decides}
+use Rattle.cif_extract.proofs.Names.{reading_ends, reading_faults, reading_line, refl, rules, subst, sym, true≢false, ◌++◌, ◌+◌, ◌<◌, ◌∙◌}
+use Rattle.cif_extract.{proofs.Names.◌∷◌, proofs.Names.◌≡◌, proofs.Names.◌≤◌, proofs.FirstRefusals.at_line, proofs.ReadCalls.at-fault}
 use Rattle.cif_extract.{specs.declared.fault.Fault.TheVariants.Memory, proofs.ReadingRuns.refused_here, proofs.ReadingRuns.refused_reason}
 use Rattle.cif_columns.{proofs.PassedLines.next_passed, specs.declared.ahead.Most.TheVariants.Of}
 use Rattle.cif_extract.proofs.ReadingRuns.{HasCome, come_more, come_none, comes-end, comes-line_fault, comes-memory, comes-untaken}
@@ -96,7 +97,7 @@ returns-in-Err-take g c =
     ∙ refused_reason _ line (progress_of c.loop-columns.reading) (progress_of c.take.new.self) c.in-Err-take.fault why
     c.in-Err-take.ensures.taken e))
     (reading_decides g.R.Read.remaining _ _ _ _ ls so_far c.read_line.new.self c.read_line.new.source c.line_number.result
-    (c.line_number.ensures ∙ more) (next.decided so_far.reads_on (λ is. cc)))))
+    (c.line_number.ensures ∙ more) (next.decided so_far.reads_on (λ is. true≢false (ap is_ok is))))))
 
 pub returns-in-Err : goal.returns-in-Err
 returns-in-Err g c =
@@ -144,3 +145,11 @@ loop-columns-smaller g c =
     let next = rw c.in-Ok-true.field-0-test at c.in-Ok-true.ensures in
     let more : given c.read_line.new.self ≡ given c.loop-columns.lines + 1 = next.counted in
     omega (arith, more, next.limit_now, c.read_line.new.self.counted)
+
+pub take_plain_further-requires-clause-plain : goal.take_plain_further-requires-clause-plain
+take_plain_further-requires-clause-plain g c = c.in-Some-goes_further_plainly.ensures
+
+pub returns-in_err-take_plain_further : goal.returns-in_err-take_plain_further
+returns-in_err-take_plain_further g c =
+    rw (at-fault c.from_residual-in_err-take_plain_further.result Memory c.from_residual-in_err-take_plain_further.ensures.1)
+    (comes-memory _ _ c.args.max_lines _ _ c.loop-columns.invariant.3)

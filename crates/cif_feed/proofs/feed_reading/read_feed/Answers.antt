@@ -2,7 +2,8 @@
 -- them all.
 use Rattle.cif_feed.proofs.Names.{MarkParts, [], ap, arith, is_comment, is_note, kind_in, known_both, length, nothing_left, read_nothing}
 use Rattle.cif_feed.proofs.Names.{read_on_both, reading_decides, reading_ends, reading_faults, reading_starts, refl, sym, ◌++◌, ◌+◌, ◌<◌}
-use Rattle.cif_feed.proofs.Names.{◌∙◌, ◌∷◌, ◌≡◌, ◌≤◌}
+use Rattle.cif_feed.proofs.Names.{true≢false, ◌∙◌, ◌∷◌, ◌≡◌, ◌≤◌}
+use Rattle.std.specs.Result.{is_ok}
 use Rattle.cif_columns.{proofs.PassedLines.next_passed, specs.declared.ahead.Most.TheVariants.InFeed, specs.LineReader.given}
 use Rattle.cif_extract.{proofs.ReadCalls.at-fault, specs.declared.fault.Fault.TheVariants.Memory}
 use Rattle.cif_feed.proofs.FeedRuns.{at_feed_line, comes-end, comes-line_fault, comes-memory, comes-untaken, comment_fine, feed_comment}
@@ -130,7 +131,7 @@ returns-in-Err-take-clause-reads g c =
     (line_why c.args.feed c.args.allowed c.args.max_lines cs line c.in-Err-take.ensures.line got.1 room
     ∙ feed_reason c.args.feed c.args.allowed cs line c.in-Err-take.fault why _ (c.in-Err-take.ensures.taken cs taken number) e))
     (reading_decides g.R.Read.remaining _ _ _ _ cs so_far c.read_content.new.self c.read_content.new.source c.line_number-number.result
-    (c.line_number-number.ensures ∙ more) (next.decided so_far.reads_on (λ is. cc)))))
+    (c.line_number-number.ensures ∙ more) (next.decided so_far.reads_on (λ is. true≢false (ap is_ok is))))))
 
 pub returns-in-Ok-End-clause-reads : goal.returns-in-Ok-End-clause-reads
 returns-in-Ok-End-clause-reads g c =
