@@ -18,9 +18,22 @@ pub(crate) fn advise_on_word(
 ) {
     let mut message = Message::new(alloc);
     match fault {
-        JobFault::BadDate | JobFault::BadUid => {
+        JobFault::BadUid => {
             if let Some(word) = bad_word(alloc, words, fault, verbosity) {
-                add_word(word, fault, &mut message);
+                add_word(word, "must be six printable ASCII characters", &mut message);
+                if word.len() == 5 {
+                    message.line(
+                        "a space before or behind the other five belongs to it, in quotes",
+                    );
+                }
+            }
+        }
+        JobFault::BadDate => {
+            if let Some(word) = bad_word(alloc, words, fault, verbosity) {
+                add_word(word, YYMMDD, &mut message);
+                if let Some(date) = written_as_iso(word) {
+                    message.line(format_args!("dates are YYMMDD: {date}"));
+                }
             }
         }
         JobFault::Usage { kind: _, text: _ } => match words.get(1).map(String::as_str) {
@@ -34,23 +47,13 @@ pub(crate) fn advise_on_word(
     message.tell(errors);
 }
 
-/// Adds what a word that names no date, or no UID, must be.
-fn add_word(word: &str, fault: &JobFault, message: &mut Message) {
+/// Adds the mistaken word, and what it must be.
+fn add_word(word: &str, must_be: &str, message: &mut Message) {
     let shown = Escaped {
         text: word,
         has_lines: false,
     };
-    if let JobFault::BadUid = fault {
-        message.line(format_args!("'{shown}': must be six printable ASCII characters"));
-        if word.len() == 5 {
-            message.line("a space before or behind the other five belongs to it, in quotes");
-        }
-        return;
-    }
-    message.line(format_args!("'{shown}': {YYMMDD}"));
-    if let Some(date) = written_as_iso(word) {
-        message.line(format_args!("dates are YYMMDD: {date}"));
-    }
+    message.line(format_args!("'{shown}': {must_be}"));
 }
 
 /// The digits of a date YYYY-MM-DD, as YYMMDD.

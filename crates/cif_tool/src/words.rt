@@ -170,8 +170,7 @@ fn named_job(name: &str, matches: &ArgMatches<'_>) -> Result<Job, JobFault>
         })),
         _ => {
             let asked = asked_of(matches)?;
-            let form = form_of(matches);
-            let canonical = CanonicalJob { asked, form };
+            let canonical = canonical_job(asked, matches);
             match name {
                 "normalise" => Ok(Job::Normalise(canonical)),
                 "check" if has_flag(matches, "all") => Ok(Job::CheckAll(canonical)),
@@ -189,6 +188,17 @@ fn named_job(name: &str, matches: &ArgMatches<'_>) -> Result<Job, JobFault>
                 _ => Err(JobFault::NoCommand),
             }
         }
+    }
+}
+
+/// The window that is asked for, with the form that the words name.
+fn canonical_job(asked: Asked, matches: &ArgMatches<'_>) -> CanonicalJob
+    ensures { (result.asked ≡ asked)
+        × (result.form ≡ form_of (first_of (codes "form") (rows_of (found_of matches.now)))) }
+{
+    CanonicalJob {
+        asked,
+        form: form_of(matches),
     }
 }
 
