@@ -1,5 +1,6 @@
 -- On which days of its weeks an aligned record applies.
-use Rattle.cif_weeks.proofs.Names.{Form, IsAligned, IsAlignedOne, IsAlignedTwo, IsWeekOf, IsWithin, One, Permanent, RunsOn, Two, Window}
+use Rattle.cif_weeks.proofs.Names.{Form, IsAligned, IsAlignedOne, IsAlignedTwo, IsWeekOf, IsWithin, One, Permanent, RunsOn, Three, Two}
+use Rattle.cif_weeks.proofs.Names.{Window}
 use Rattle.cif_weeks.proofs.Names.{arith, cases_lt, inl, inr, length, subst, sym, week_of, weekday_of, ℕ, ◌*◌, ◌+◌, ◌-◌, ◌<◌, ◌≡◌, ◌≤◌}
 use Rattle.cif_weeks.proofs.WeekDays.{RunsOn-below, day_rises, day_rises_week, week_later, week_of-day, week_of-rises, weekday_later}
 use Rattle.cif_weeks.{proofs.WeekDays.weekday_of-day, specs.Applies.Applies}
@@ -11,7 +12,7 @@ pub record DayOfWeek {B : Type 0} (r : Permanent B) (week weekday : ℕ) : Type 
   pub on_weekday : weekday_of day ≡ weekday
   pub applies : Applies r day
 
--- what the two forms share: the record applies on its first and its last day, which lie in the window, and on a day of
+-- what the forms share: the record applies on its first and its last day, which lie in the window, and on a day of
 -- each weekday in its mask
 pub record IsTight {B : Type 0} (window : Window) (r : Permanent B) : Type 0 where
   pub seven : length r.days ≡ 7
@@ -108,6 +109,14 @@ module _ {B : Type 0} (r : Permanent B) where
     pub tight : (form : Form) → IsAligned form window r → IsTight window r
     tight One a = tight_one a
     tight Two a = tight_two a
+    tight Three a = record {
+      seven = a.seven;
+      on_first = a.on_first;
+      on_last = a.on_last;
+      first_within = a.first_within;
+      last_within = a.last_within;
+      used = a.used;
+    }
 
     -- an aligned record applies in the window alone
     pub within-tight : IsTight window r → (n : ℕ) → Applies r n → IsWithin window n

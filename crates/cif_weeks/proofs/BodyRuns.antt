@@ -1,12 +1,14 @@
 -- The runs of one body, week by week: weeks without a day of it, a run that begins, and one that goes on.
-use Rattle.cif_weeks.proofs.Names.{AreBodyRuns, AreGrownTo, AreRunsOfBody, Bool, BreaksBefore, Form, HaveOneMask, IsAgreed, IsDay}
+use Rattle.cif_weeks.proofs.Names.{AreAdded, AreBodyRuns, AreFewestBefore, AreGrownTo, AreRunsBefore, AreRunsOfBody, Bool, BreaksBefore, Form, HaveOneMask}
+use Rattle.cif_weeks.proofs.Names.{IsAgreed, IsByWeeks, IsDay, IsExact, One, Three, Two, monday_of}
 use Rattle.cif_weeks.proofs.Names.{IsFirstOf, IsGrown, IsLastDay, IsLastOf, IsLatest, IsMask, IsWithin, List, MasksAgree, MasksDiffer}
 use Rattle.cif_weeks.proofs.Names.{Permanent, Run, RunsOn, Shows, Span, Weeks, Window, [], ap, append-nil, append_assoc, arith, cases_lt}
 use Rattle.cif_weeks.proofs.Names.{dates_of, get_or, get_or-append_seam, length, length-append, refl, reverse, reverse-append}
 use Rattle.cif_weeks.proofs.Names.{reverse-reverse, set, subst, sym, week_of, weekday_of, ℕ, ⊎_elim, ◌*◌, ◌++◌, ◌+◌, ◌-◌, ◌<◌, ◌↔◌, ◌∙◌}
 use Rattle.cif_weeks.proofs.Names.{◌∷◌, ◌≡◌, ◌≤◌, ◌⊎◌}
 use Rattle.std.proofs.Math.Seq.{set-append_seam}
-use Rattle.cif_weeks.proofs.{Ended.breaks_differ, Growing.grown_more, Growing.grown_start, Jump.grown_jump, WeekDays.RunsOn-below}
+use Rattle.cif_weeks.proofs.{Ended.breaks_differ, FewestRuns.fewest-idle, Growing.grown_more, Growing.grown_start, Jump.grown_jump, Masks.mask_runs}
+use Rattle.cif_weeks.proofs.WeekDays.{RunsOn-below}
 
 module _ (form : Form) (window : Window) (on : ℕ → Type 0) (source : ℕ) where
   -- weeks more, without a day
@@ -38,7 +40,7 @@ module _ (form : Form) (window : Window) (on : ℕ → Type 0) (source : ℕ) wh
 
   module _ (inside : (n : ℕ) → on n → IsWithin window n) where
     -- weeks that have one mask, with the first weekday f and the last one l
-    module _ (week until : ℕ) (it : Weeks) (h : HaveOneMask on week until it) (f l : ℕ) (is_first : IsFirstOf it.days f)
+    module _ (by : IsByWeeks form) (week until : ℕ) (it : Weeks) (h : HaveOneMask on week until it) (f l : ℕ) (is_first : IsFirstOf it.days f)
         (is_last : IsLastOf it.days l) where
       abbrev days : List Bool
       days = it.days
@@ -109,7 +111,7 @@ module _ (form : Form) (window : Window) (on : ℕ → Type 0) (source : ℕ) wh
             let same : m ≡ first = omega arith in
             let begins : week_of first ≡ week = omega (arith, below f is_first.runs) in
             grown-on (record { first = first; last = n; days = days; body = source }) n is is_end.in_week
-            (grown_start window on inside form (record { first = first; last = n; days = days; body = source })
+            (grown_start window on inside form by (record { first = first; last = n; days = days; body = source })
             (subst (λ v. IsMask on v days) (sym begins) here) (subst (λ v. IsLastDay v days n) (sym begins) is_end)
             (subst on same on_m)
             (λ i at_i on_i. ⊎_elim
@@ -168,6 +170,99 @@ module _ (form : Form) (window : Window) (on : ℕ → Type 0) (source : ℕ) wh
             subst (λ v. AreBodyRuns form window on source v (run ∷ before)) begins-in (latest, breaks, rest),
           )
 
+-- weeks more, without a day, in each form
+pub runs-idle : (form : Form) (window : Window) (on : ℕ → Type 0) (source limit later : ℕ) (runs : List Run) → limit ≤ later →
+    ((n : ℕ) → limit ≤ week_of n → week_of n < later → ¬ on n) → AreRunsBefore form window on source limit runs →
+    AreRunsBefore form window on source later runs
+runs-idle One window on source limit later runs upto none h = body-idle One window on source limit later runs upto none h
+runs-idle Two window on source limit later runs upto none h = body-idle Two window on source limit later runs upto none h
+runs-idle Three window on source limit later runs upto none h = fewest-idle on source (monday_of limit) (monday_of later) runs (omega arith)
+    (λ n from less. none n (omega arith) (omega arith)) h
+
+-- what weeks more do to the runs of their form
+pub grown-weeks : (form : Form) → IsByWeeks form → (window : Window) (on : ℕ → Type 0) (source week later : ℕ) (old runs grown : List Run) →
+    (AreAdded old runs (AreBodyRuns form window on source week) → AreAdded old grown (AreBodyRuns form window on source later)) →
+    AreGrownTo form window on source week old runs → AreGrownTo form window on source later old grown
+grown-weeks One by window on source week later old runs grown h = h
+grown-weeks Two by window on source week later old runs grown h = h
+grown-weeks Three by window on source week later old runs grown h = absurd by
+
+pub grown-days : (form : Form) → form ≡ Three → (window : Window) (on : ℕ → Type 0) (source week later : ℕ) (old runs grown : List Run) →
+    (AreAdded old runs (AreFewestBefore on source (monday_of week)) → AreAdded old grown (AreFewestBefore on source (monday_of later))) →
+    AreGrownTo form window on source week old runs → AreGrownTo form window on source later old grown
+grown-days form is window on source week later old runs grown h =
+    subst (λ f. AreGrownTo f window on source week old runs → AreGrownTo f window on source later old grown) (sym is) h
+
+pub by-weeks : (form : Form) → (form ≡ One) ⊎ (form ≡ Two) → IsByWeeks form
+by-weeks form is = ⊎_elim (λ one. subst IsByWeeks (sym one) tt) (λ two. subst IsByWeeks (sym two) tt) is
+
+-- Weeks that have one mask, with the first weekday f and the last one l, are the days of one run.
+module _ (on : ℕ → Type 0) (week until : ℕ) (it : Weeks) (h : HaveOneMask on week until it) (f l : ℕ) (is_first : IsFirstOf it.days f)
+    (is_last : IsLastOf it.days l) (first last : ℕ) (first_at : first + 4 ≡ week * 7 + f) (last_at : last + 4 ≡ it.last * 7 + l) where
+  mask-at : (v : ℕ) → week ≤ v → v ≤ it.last → IsMask on v it.days
+  mask-at v from upto = h.masks v from upto
+
+  week-mask : IsMask on week it.days
+  week-mask = mask-at week (omega arith) h.from
+
+  first-below : f < 7
+  first-below = RunsOn-below it.days f week-mask.seven is_first.runs
+
+  last-below : l < 7
+  last-below = RunsOn-below it.days l week-mask.seven is_last.runs
+
+  from-first : (w : ℕ) → RunsOn it.days w → f ≤ w
+  from-first w has = ⊎_elim (λ sooner. absurd (is_first.none_before w sooner has)) (λ from. from) (cases_lt w f)
+
+  upto-last : (w : ℕ) → RunsOn it.days w → w ≤ l
+  upto-last w has = ⊎_elim (λ later. absurd (is_last.none_after w later has)) (λ upto. upto) (cases_lt l w)
+
+  pub weeks-exact : IsExact on first last it.days
+  weeks-exact =
+      let (n, at, day, runs) = week-mask.only f is_first.runs in
+      let (m, at_m, day_m, runs_m) = (mask-at it.last h.from (omega arith)).only l is_last.runs in
+      let below = first-below in
+      let below_l = last-below in
+      let order = upto-last f is_first.runs in
+      let from = h.from in
+      let is_n : n ≡ first = omega arith in
+      let is_m : m ≡ last = omega arith in
+      record {
+        seven = week-mask.seven;
+        in_order = omega arith;
+        first_on = subst on is_n runs;
+        last_on = subst on is_m runs_m;
+        only = λ k among.
+            let begun = among.begun in
+            let unfinished = among.unfinished in
+            mask_runs on (week_of k) it.days k (mask-at (week_of k) (omega arith) (omega arith)) refl among.on_weekday;
+        all = λ k begun unfinished on_k. record {
+          begun = begun;
+          unfinished = unfinished;
+          on_weekday = (mask-at (week_of k) (omega arith) (omega arith)).shows k refl on_k;
+        };
+        used = λ w has.
+            let (k, at_k, day_k, on_k) = week-mask.only w has in
+            let from_f = from-first w has in
+            let upto_l = upto-last w has in
+            (k, day_k, record { begun = omega arith; unfinished = omega arith; on_weekday = subst (RunsOn it.days) (sym day_k) has });
+      }
+
+  -- none of the set is in these weeks before it, or after it
+  pub none-sooner : (n : ℕ) → monday_of week ≤ n → n < first → ¬ on n
+  none-sooner n from less runs =
+      let below = first-below in
+      let has = week-mask.shows n (omega arith) runs in
+      let begun = from-first (weekday_of n) has in
+      omega arith
+
+  pub none-later : (n : ℕ) → last + 1 ≤ n → n < monday_of (it.last + 1) → ¬ on n
+  none-later n after less runs =
+      let below = last-below in
+      let has = (mask-at it.last h.from (omega arith)).shows n (omega arith) runs in
+      let ended = upto-last (weekday_of n) has in
+      omega arith
+
 -- a run that is pushed is the latest
 pub made-more : (old made : List Run) (run : Run) → (old ++ reverse made) ++ run ∷ [] ≡ old ++ reverse (run ∷ made)
 made-more old made run = append_assoc old (reverse made) (run ∷ []) ∙ ap (λ v. old ++ v) (sym (reverse-append (run ∷ []) made))
@@ -211,7 +306,7 @@ body-made form window spans source limit over agreed old runs (made, are, body) 
   record {
     limit = limit;
     over = over;
-    body_runs = subst (AreBodyRuns form window (Shows spans source) source limit) (sym (reverse-reverse made)) body;
+    body_runs = subst (AreRunsBefore form window (Shows spans source) source limit) (sym (reverse-reverse made)) body;
     agreed = agreed;
   },
 )

@@ -1,6 +1,6 @@
 -- When the week after a record's last doesn't join it.
 use Rattle.cif_weeks.proofs.Names.{Bool, Breaks, ExactlyOne, Form, IsGrown, IsMask, IsWithin, List, MasksDiffer, One, Permanent, RunsOn}
-use Rattle.cif_weeks.proofs.Names.{Two, Window, arith, inl, inr, subst, sym, week_of, weekday_of, ℕ, ◌+◌, ◌∙◌, ◌≡◌}
+use Rattle.cif_weeks.proofs.Names.{Three, Two, Window, arith, inl, inr, subst, sym, week_of, weekday_of, ℕ, ◌+◌, ◌∙◌, ◌≡◌}
 use Rattle.cif_weeks.proofs.{Grown.fits_last, Masks.mask_runs, Masks.one_mask, WeekDays.week_of-next, WeekDays.weekday_of-next}
 
 -- no list has a weekday that an equal one doesn't have
@@ -13,6 +13,7 @@ module _ {B : Type 0} (window : Window) (on : ℕ → Type 0) (inside : (n : ℕ
   pub breaks_differ : (form : Form) (r : Permanent B) (next : List Bool) → IsGrown form window on r
       → IsMask on (week_of r.last + 1) next → MasksDiffer form window (week_of r.last) r.days next
       → Breaks form window on r
+  breaks_differ Three r next g k differ = fits_last window on inside Three r g
   breaks_differ One r next g k (w, below, counts, one) = λ other is_mask same.
       not_equal r.days next w (same ∙ one_mask on (week_of r.last + 1) other next is_mask k) one
   breaks_differ Two r next g k (w, below, (i, week_i, day_i, within, next_within), one) =

@@ -1,20 +1,22 @@
 -- A record starts with one week, and grows by the next week where the two agree.
-use Rattle.cif_weeks.proofs.Names.{Bool, Fits, Form, IsGrown, IsLastDay, IsMask, IsWithin, List, MasksAgree, One, Permanent, RunsOn, Two}
+use Rattle.cif_weeks.proofs.Names.{Bool, Fits, Form, IsByWeeks, IsGrown, IsLastDay, IsMask, IsWithin, List, MasksAgree, One, Permanent}
+use Rattle.cif_weeks.proofs.Names.{RunsOn, Three, Two}
 use Rattle.cif_weeks.proofs.Names.{Window, ap, arith, cases_lt, inl, inr, length, refl, subst, sym, week_of, weekday_of, ℕ, ◌+◌, ◌-◌, ◌↔◌}
 use Rattle.cif_weeks.proofs.{Masks.last_latest, Masks.last_runs, Masks.mask_runs, Names.◌∙◌, Names.◌≡◌, Names.◌≤◌, Names.◌⊎◌}
 use Rattle.cif_weeks.proofs.WeekDays.{RunsOn-below, day_rises, week_of-next, weekday_of-next}
 
 module _ (window : Window) (on : ℕ → Type 0) where
-  start_fits : (form : Form) (days : List Bool) (week : ℕ) → IsMask on week days → Fits form window on days week
-  start_fits One days week m = m
-  start_fits Two days week m = record { shows = m.shows; full = λ n at within has. mask_runs on week days n m at has }
+  start_fits : (form : Form) → IsByWeeks form → (days : List Bool) (week : ℕ) → IsMask on week days → Fits form window on days week
+  start_fits Three by days week m = absurd by
+  start_fits One by days week m = m
+  start_fits Two by days week m = record { shows = m.shows; full = λ n at within has. mask_runs on week days n m at has }
 
 module _ {B : Type 0} (window : Window) (on : ℕ → Type 0) (inside : (n : ℕ) → on n → IsWithin window n) where
   -- a record of one week, from the first day to the last on which its body runs there
-  pub grown_start : (form : Form) (r : Permanent B) → IsMask on (week_of r.first) r.days
+  pub grown_start : (form : Form) → IsByWeeks form → (r : Permanent B) → IsMask on (week_of r.first) r.days
       → IsLastDay (week_of r.first) r.days r.last → on r.first
       → ((n : ℕ) → week_of n ≡ week_of r.first → on n → r.first ≤ n) → IsGrown form window on r
-  grown_start form r m l runs earliest =
+  grown_start form by r m l runs earliest =
       let one : week_of r.last ≡ week_of r.first = l.in_week in
       record {
         seven = m.seven;
@@ -26,7 +28,7 @@ module _ {B : Type 0} (window : Window) (on : ℕ → Type 0) (inside : (n : ℕ
         used = λ w has. let (n, at, day, runs_n) = m.only w has in (n, day, omega arith, omega arith, runs_n);
         fits = λ week begun unfinished.
             let here : week_of r.first ≡ week = omega arith in
-            start_fits window on form r.days week (subst (λ v. IsMask on v r.days) here m);
+            start_fits window on form by r.days week (subst (λ v. IsMask on v r.days) here m);
       }
 
   module _ (r : Permanent B) (week : ℕ) (next both : List Bool) (here : week_of r.last ≡ week)
@@ -73,6 +75,7 @@ module _ {B : Type 0} (window : Window) (on : ℕ → Type 0) (inside : (n : ℕ
     old_fits : (form : Form) (v : ℕ) → IsGrown form window on r → MasksAgree form window week r.days next
         → week_of r.first ≤ v → v ≤ week_of r.last
         → Fits form window on both v
+    old_fits Three v g agree begun unfinished = absurd (g.fits v begun unfinished)
     old_fits One v g agree begun unfinished = record {
       seven = seven;
       shows = λ n at runs. (union (weekday_of n)).1 (inl ((g.fits v begun unfinished).shows n at runs));
@@ -87,6 +90,7 @@ module _ {B : Type 0} (window : Window) (on : ℕ → Type 0) (inside : (n : ℕ
     }
 
     new_fits : (form : Form) → IsGrown form window on r → MasksAgree form window week r.days next → Fits form window on both (week + 1)
+    new_fits Three g agree = absurd (g.fits (week_of r.first) (omega arith) g.in_order)
     new_fits One g agree = record {
       seven = seven;
       shows = λ n at runs. (union (weekday_of n)).1 (inr (k.shows n at runs));

@@ -1,20 +1,22 @@
 -- Records that have grown: on which days they apply, that they are aligned, and the change where one ends and another begins.
-use Rattle.cif_weeks.proofs.Names.{Bool, Breaks, Change, Fits, Form, IsAligned, IsGrown, IsMask, IsWithin, List, One, Permanent, RunsOn}
-use Rattle.cif_weeks.proofs.Names.{Two, Window, arith, cases_lt, inl, inr, refl, subst, sym, week_of, weekday_of, ℕ, ⊎_elim, ◌*◌, ◌+◌, ◌-◌}
+use Rattle.cif_weeks.proofs.Names.{Bool, Breaks, Change, Fits, Form, IsAligned, IsExact, IsGrown, IsMask, IsWithin, List, One, Permanent}
+use Rattle.cif_weeks.proofs.Names.{RunsOn, Three, Two, Window, arith, cases_lt, inl, inr, refl, subst, sym, week_of, weekday_of, ℕ, ◌+◌}
 use Rattle.cif_weeks.proofs.Names.{◌<◌, ◌≡◌, ◌≤◌}
 use Rattle.cif_weeks.{proofs.Masks.mask_runs, proofs.Separate.change-seven_days, specs.Applies.Applies}
-use Rattle.cif_weeks.proofs.WeekDays.{day_rises_week, week_later, week_of-next, week_of-rises, weekday_later}
+use Rattle.cif_weeks.proofs.WeekDays.{day_rises_week, week_of-next, week_of-rises}
 
 module _ (window : Window) (on : ℕ → Type 0) where
   -- where its mask fits a week, the mask has each weekday on which the body runs there
   pub fits_shows : (form : Form) (days : List Bool) (week n : ℕ) → Fits form window on days week → week_of n ≡ week
       → on n → RunsOn days (weekday_of n)
+  fits_shows Three days week n f at runs = absurd f
   fits_shows One days week n f at runs = f.shows n at runs
   fits_shows Two days week n f at runs = f.shows n at runs
 
   -- and its body runs on each day of the week and the window whose weekday is in the mask
   pub fits_full : (form : Form) (days : List Bool) (week n : ℕ) → Fits form window on days week → week_of n ≡ week
       → IsWithin window n → RunsOn days (weekday_of n) → on n
+  fits_full Three days week n f at within has = absurd f
   fits_full One days week n f at within has = mask_runs on week days n f at has
   fits_full Two days week n f at within has = f.full n at within has
 
@@ -58,28 +60,24 @@ module _ {B : Type 0} (window : Window) (on : ℕ → Type 0) (inside : (n : ℕ
     pub grown_last : Applies r r.last
     grown_last = grown_applies r.last g.in_order (omega arith) g.last_runs
 
-    -- its body runs in a week near each from its first to the one after its last
-    pub grown_near : (week : ℕ) → week_of r.first ≤ week → week ≤ week_of r.last + 1 →
-        (n : ℕ) × (week_of n ≤ week) × (week ≤ week_of n + 1) × on n
-    grown_near week from upto = ⊎_elim
-        (λ sooner.
-        let k = week - week_of r.first in
-        let n = r.first + 7 * k in
-        let at : week_of n ≡ week = omega (arith, week_later r.first k) in (
-          n,
-          omega arith,
-          omega arith,
-          grown_runs n (record {
-            begun = omega arith;
-            unfinished = let less : n < r.last = day_rises_week n r.last (omega arith) in omega arith;
-            on_weekday = subst (RunsOn r.days) (sym (weekday_later r.first k)) grown_first.on_weekday;
-          }),
-        ))
-        (λ ended. (r.last, ended, upto, g.last_runs))
-        (cases_lt week (week_of r.last))
+    -- so its dates and its mask are exact
+    pub grown_exact : IsExact on r.first r.last r.days
+    grown_exact = record {
+      seven = g.seven;
+      in_order = grown_last.begun;
+      first_on = g.first_runs;
+      last_on = g.last_runs;
+      only = grown_runs;
+      all = λ n begun unfinished runs.
+          grown_applies n (week_of-rises r.first n begun) (week_of-rises n r.last unfinished) runs;
+      used = λ w has.
+          let (n, day, begun, unfinished, runs) = g.used w has in
+          (n, day, grown_applies n begun unfinished runs);
+    }
 
   -- a grown record is aligned
   pub grown_aligned : (form : Form) (r : Permanent B) → IsGrown form window on r → IsAligned form window r
+  grown_aligned Three r g = absurd (fits_first Three r g)
   grown_aligned One r g = record {
     seven = g.seven;
     in_order = (grown_last One r g).begun;
@@ -113,14 +111,15 @@ module _ {B : Type 0} (window : Window) (on : ℕ → Type 0) (inside : (n : ℕ
 
   -- where a record of the same days begins in the week after one, which doesn't join it, there is a change
   pub grown_change : (form : Form) (r s : Permanent B) → IsGrown form window on r → Breaks form window on r
-      → IsGrown form window on s → week_of s.first ≡ week_of r.last + 1 → Change form window r s
+      → IsGrown form window on s → week_of s.first ≡ week_of r.last + 1 → Change form window on r s
+  grown_change Three r s g breaks h next = absurd breaks
   grown_change One r s g breaks h next = breaks s.days (subst (λ v. IsMask on v s.days) next (fits_first One s h))
   grown_change Two r s g (n, t) h next =
       let at : week_of n ≡ week_of r.last = t.in_week in
       let there : week_of (n + 7) ≡ week_of s.first = omega (arith, week_of-next n) in
       let in_order : week_of s.first ≤ week_of s.last = h.in_order in
       let begun : week_of r.first ≤ week_of r.last = g.in_order in
-      (change-seven_days window r s next).1 (
+      (change-seven_days window on r s next).1 (
         n,
         at,
         t.within,

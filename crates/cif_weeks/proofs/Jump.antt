@@ -1,5 +1,5 @@
 -- Weeks with one mask: a record grows by all of them at once.
-use Rattle.cif_weeks.proofs.Names.{Bool, Form, IsGrown, IsMask, IsWithin, List, MasksAgree, One, Permanent, RunsOn, Two, Window, arith, inl}
+use Rattle.cif_weeks.proofs.Names.{Bool, Form, IsGrown, IsMask, IsWithin, List, MasksAgree, One, Permanent, RunsOn, Three, Two, Window, arith, inl}
 use Rattle.cif_weeks.proofs.Names.{refl, subst, suc, sym, week_of, weekday_of, zero, ℕ, ⊎_elim, ◌*◌, ◌+◌, ◌≡◌, ◌≤◌}
 use Rattle.cif_weeks.proofs.{Growing.grown_more, Grown.fits_last, Grown.fits_shows}
 use Rattle.cif_weeks.proofs.WeekDays.{week_later, week_of-next, weekday_of-next}
@@ -14,6 +14,7 @@ module _ {B : Type 0} (window : Window) (on : ℕ → Type 0) (inside : (n : ℕ
         (fits_shows window on form r.days (week_of r.last) n (fits_last window on inside form r g) at runs)
 
     days_agree : (form : Form) → IsGrown form window on r → MasksAgree form window (week_of r.last) r.days days
+    days_agree Three g w below counts = absurd (fits_last window on inside Three r g)
     days_agree One g w below counts = (
       λ has.
           let (n, at, day, runs) = (fits_last window on inside One r g).only w has in

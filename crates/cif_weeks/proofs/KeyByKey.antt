@@ -3,6 +3,7 @@ use Rattle.cif_weeks.proofs.Names.{AllPairs, AreCanonical, Contains, Contains-ap
 use Rattle.cif_weeks.proofs.Names.{Contains-none, Form, HaveForm, IsTotalOrder, Less, List, Ordering, Permanent, Permanents, Precedes}
 use Rattle.cif_weeks.proofs.Names.{Window, [], ap, arith, inl, inr, not_less, of_key, refl, subst, sym, with_key, ℕ, ⊎_elim, ◌++◌, ◌<◌, ◌↔◌}
 use Rattle.cif_weeks.{proofs.Names.◌≡◌, proofs.Names.◌⊎◌, specs.WhatRuns.HasBody}
+use Rattle.cif_weeks.proofs.Separate.{separate-over}
 use Rattle.cif_weeks.proofs.JoinedLists.{AllPairs-append, AllPairs-map, Contains-from_map, Contains-map}
 
 -- more records have the bodies of fewer
@@ -10,13 +11,15 @@ pub HasBody-more : {B : Type 0} (xs ys : Permanents B) → ((r : Permanent B) �
     HasBody ys n b
 HasBody-more xs ys more n b h = record { it = h.it; listed = more h.it h.listed; applies = h.applies; body = h.body }
 
--- fewer records have the form of more
-HaveForm-fewer : {B : Type 0} (form : Form) (window : Window) (xs ys : Permanents B) → ((r : Permanent B) → ys r → xs r) →
+-- the same records have the same form
+HaveForm-same : {B : Type 0} (form : Form) (window : Window) (xs ys : Permanents B) → ((r : Permanent B) → ys r ↔ xs r) →
     HaveForm form window xs → HaveForm form window ys
-HaveForm-fewer form window xs ys fewer h = record {
-  single = λ n r s in_r in_s. h.single n r s (fewer r in_r) (fewer s in_s);
-  aligned = λ r in_r. h.aligned r (fewer r in_r);
-  separate = λ r s in_r in_s. h.separate r s (fewer r in_r) (fewer s in_s);
+HaveForm-same form window xs ys same h = record {
+  single = λ n r s in_r in_s. h.single n r s ((same r).0 in_r) ((same s).0 in_s);
+  aligned = λ r in_r. h.aligned r ((same r).0 in_r);
+  separate = λ r s in_r in_s two one. separate-over form
+      (λ n. HasBody-more xs ys (λ t. (same t).1) n r.body) (λ n. HasBody-more ys xs (λ t. (same t).0) n r.body)
+      (h.separate r s ((same r).0 in_r) ((same s).0 in_s) two one);
 }
 
 pub canonical-none : {K B : Type 0} (cmp : K → K → Ordering) (form : Form) (window : Window) →
@@ -57,14 +60,20 @@ module _ {K B : Type 0} (records : List (K × Permanent B)) (k : K) (own : List 
     key-form : (j : K) (r : Permanent B) → of_key (records ++ with_key k own) j r →
         HaveForm form window (of_key (records ++ with_key k own) j)
     key-form j r h = ⊎_elim
-        (λ old. HaveForm-fewer form window (of_key records j) (of_key (records ++ with_key k own) j) (λ s in_s. ⊎_elim
-        (λ also. also)
-        (λ new. absurd (not_less cmp total j k new.0 (before j r old)))
-        ((of_key-more j s).0 in_s)) (c.have_form j))
-        (λ new. HaveForm-fewer form window (Contains own) (of_key (records ++ with_key k own) j) (λ s in_s. ⊎_elim
-        (λ old. absurd (not_less cmp total j k new.0 (before j s old)))
-        (λ also. also.1)
-        ((of_key-more j s).0 in_s)) have_form)
+        (λ old. HaveForm-same form window (of_key records j) (of_key (records ++ with_key k own) j) (λ s. (
+          λ in_s. ⊎_elim
+              (λ also. also)
+              (λ new. absurd (not_less cmp total j k new.0 (before j r old)))
+              ((of_key-more j s).0 in_s),
+          λ also. (of_key-more j s).1 (inl also),
+        )) (c.have_form j))
+        (λ new. HaveForm-same form window (Contains own) (of_key (records ++ with_key k own) j) (λ s. (
+          λ in_s. ⊎_elim
+              (λ old. absurd (not_less cmp total j k new.0 (before j s old)))
+              (λ also. also.1)
+              ((of_key-more j s).0 in_s),
+          λ also. (of_key-more j s).1 (inr (new.0, also)),
+        )) have_form)
         ((of_key-more j r).0 h)
 
     pub canonical-more : AreCanonical cmp form window (records ++ with_key k own)

@@ -5,6 +5,9 @@ pub mod BodyRuns
 pub mod CalendarSources
 pub mod Cuts
 pub mod Ended
+pub mod Exact
+pub mod FewestRuns
+pub mod Forms
 pub mod Growing
 pub mod Grown
 pub mod Growth
@@ -16,9 +19,11 @@ pub mod Masks
 pub mod Meeting
 pub mod MemberClash
 pub mod MemberRuns
+pub mod Parts
 pub mod PermanentEntries
 pub mod PieceRuns
 pub mod PieceSpans
+pub mod Reach
 pub mod SameDays
 pub mod Separate
 pub mod SourceRuns
@@ -28,5 +33,7 @@ pub mod SpanRuns
 pub mod Spans
 pub mod Unique
 pub mod UniqueByKey
+pub mod UniqueFewest
+pub mod UniqueWeeks
 pub mod WeekDays
 pub mod Names

@@ -25,20 +25,23 @@ pub use Rattle.cif_calendar.proofs.Names.{get_or_default, get_or_from_slice_get,
 pub use Rattle.cif_calendar.proofs.Names.{same_Some, slice_get-get_or, slice_get_within, source_at, take_more, weekday_of, winner_of}
 pub use Rattle.cif_calendar.proofs.RisingLists.{AllPairs-members, Contains-none, IsOneWay, less_one_way, not_less, same_members}
 pub use Rattle.cif_calendar.specs.{Applies.IsAmongDates, declared.key_calendar.Piece.Piece}
-pub use Rattle.cif_weeks.specs.Aligned.{IsAligned, IsAlignedOne, IsAlignedTwo}
-pub use Rattle.cif_weeks.specs.{Applies.IsWeekOf, HaveForm.HaveForm, Meets.Meets, WhatRuns.SayTheSame, WhatRuns.SayWhatRuns}
+pub use Rattle.cif_weeks.specs.Aligned.{IsAligned, IsAlignedOne, IsAlignedThree, IsAlignedTwo}
+pub use Rattle.cif_weeks.specs.{Applies.IsInRange, Applies.IsWeekOf, Exact.IsExact, HaveForm.HaveForm, Meets.Meets, WhatRuns.SayTheSame, WhatRuns.SayWhatRuns}
 pub use Rattle.cif_weeks.specs.Canonical.{AreCanonical, Precedes, SayTheSameByKey, SayWhatRunsByKey, with_key}
 pub use Rattle.cif_weeks.specs.MemberRuns.{AreRunsOfMembers, HaveClash, IsMembersRun}
 pub use Rattle.cif_weeks.specs.Permanent.{Permanent, Permanents, permanent_entries, terms_of}
 pub use Rattle.cif_weeks.specs.Runs.{AreCanonicalRuns, AreSources, IsRunOf, record_of, window_of}
-pub use Rattle.cif_weeks.specs.Separate.{AreSeparate, Change, ChangeBetween, EitherApplies, ExactlyOne}
-pub use Rattle.cif_weeks.specs.Steps.BodyRuns.{AreBodyRuns, AreGrownTo, AreRunsOfBody, AreRunsOfSpans, BreaksBefore, EndsBefore, HasSource}
-pub use Rattle.cif_weeks.specs.Steps.BodyRuns.{HasWeekOf, IsLatest, IsSpansRun, dates_of}
-pub use Rattle.cif_weeks.specs.Steps.Growing.{Breaks, Fits, IsApartFrom, IsGrown}
+pub use Rattle.cif_weeks.specs.Separate.{AreApart, AreSeparate, Change, ChangeBetween, EitherApplies, ExactlyOne, Follows}
+pub use Rattle.cif_weeks.specs.Steps.BodyRuns.{AreAdded, AreBodyRuns, AreFewestBefore, AreGrownTo, AreRunsBefore, AreRunsOfBody}
+pub use Rattle.cif_weeks.specs.Steps.BodyRuns.{AreRunsOfSpans, BreaksBefore, EndsBefore, EndsWeeksBefore, HasDayOf, HasSource, IsLatest}
+pub use Rattle.cif_weeks.specs.Steps.BodyRuns.{IsLatestExact, IsLongestBefore, IsSpansRun, dates_of, monday_of}
+pub use Rattle.cif_weeks.specs.Steps.Fewest.{GoesOn, HasGoneOn, IsLeft, IsMissing, IsPart, IsReach, IsRunDay, IsTooLate, Stops}
+pub use Rattle.cif_weeks.specs.Steps.Growing.{Breaks, Fits, IsApartFrom, IsByWeeks, IsGrown, IsLongest, IsMade, IsWeeksFrom}
 pub use Rattle.cif_weeks.specs.Steps.PieceSpans.{AreBySource, AreInOrder, AreNear, AreSpansBefore, AreSpansOn, HasBodyOn, IsPieceSpan}
 pub use Rattle.cif_weeks.specs.Steps.PieceSpans.{IsWinnerOn, body_in, named, source_in}
 pub use Rattle.cif_weeks.specs.Steps.Spans.{AgreeOn, AreSpansOf, HasDay, HaveOneMask, IsAgreed, IsDisputed, IsMembersSpan, IsSourceAmong}
 pub use Rattle.cif_weeks.specs.{Steps.Spans.IsSpanOf, Steps.Spans.Leads, Steps.Spans.Shows, Steps.Spans.SomeOf, declared.span.Weeks.Weeks}
 pub use Rattle.cif_weeks.specs.Steps.WeekMasks.{Counts, IsLastDay, IsMask, MasksAgree, MasksDiffer}
 pub use Rattle.cif_weeks.specs.Window.{IsWithin, Window, window_days, window_from}
-pub use Rattle.cif_weeks.specs.declared.{form.Form.Form, form.Form.TheVariants.One, form.Form.TheVariants.Two, form.Run.Run, span.Span.Span}
+pub use Rattle.cif_weeks.specs.declared.{form.Form.Form, form.Form.TheVariants.One, form.Form.TheVariants.Three, form.Form.TheVariants.Two}
+pub use Rattle.cif_weeks.specs.declared.{form.Run.Run, span.Span.Span}

@@ -3,6 +3,7 @@ use Rattle.cif_weeks.proofs.Names.{All, AreCanonicalRuns, AreRunsOfSpans, AreSou
 use Rattle.cif_weeks.proofs.Names.{Form, HasDay, IsAgreed, IsRunOf, IsWithin, List, None, Option, Permanent, Run, Shows, Some, Span, Terms}
 use Rattle.cif_weeks.proofs.Names.{ap, arith, body_at, body_in, body_on, get_or, letter, map, named, refl, source_at, sym, unwrap_or}
 use Rattle.cif_weeks.proofs.Names.{window_of, ℕ, ◌+◌, ◌<◌, ◌∙◌, ◌≡◌}
+use Rattle.cif_weeks.proofs.{Forms.made-first, Names.dates_of}
 use Rattle.cif_weeks.proofs.{Growth.inside, JoinedLists.zip-map, JoinedLists.zip-with, Meeting.have_form, Meeting.say}
 use Rattle.cif_weeks.{proofs.SourcesIn.source_in-within, specs.Steps.BodyRuns.HasBody}
 use Rattle.cif_weeks.proofs.SpanRecords.{HaveBodies, IsBodysRun, Shown, in-order, records-of, records-rising}
@@ -67,9 +68,12 @@ module _ {B : Type 0} (xs : List (Terms B)) (c : CalendarParts) (sources : AreSo
   shown-runs n b within s = sym (in-window n within) ∙ sym (runs-on s.it n s.listed s.leads.has) ∙ s.body_is
 
   module _ (form : Form) (runs : List Run) (are : AreRunsOfSpans form (window_of c) spans runs) where
+    first-shown : (run : Run) → Contains runs run → Shows spans run.source run.first
+    first-shown run listed = made-first (window_of c) (Shows spans run.source) (dates_of run) form (are.each run listed).made
+
     -- the runs begin in the window
     first-inside : (run : Run) → Contains runs run → IsWithin (window_of c) run.first
-    first-inside run listed = pieces-inside run.source run.first (are.each run listed).grown.first_runs
+    first-inside run listed = pieces-inside run.source run.first (first-shown run listed)
 
     pub firsts-inside : All (λ run. IsWithin (window_of c) run.first) runs
     firsts-inside = λ i d below. first-inside (get_or runs i d) (Contains-get_or runs i d below)
@@ -77,7 +81,7 @@ module _ {B : Type 0} (xs : List (Terms B)) (c : CalendarParts) (sources : AreSo
     -- with the calendar's source of its first day each run is that of its record
     named-run : (run : Run) (r : Permanent B) → Contains runs run → IsBodysRun xs run r → IsRunOf xs c (named c run) r
     named-run run r listed of =
-        let s = (are.each run listed).grown.first_runs in
+        let s = first-shown run listed in
         let (source, body) = named-body xs (source_at c.pieces run.first) run.source r.body
         (shown-runs run.first r.body (first-inside run listed) (record {
           it = s.it;

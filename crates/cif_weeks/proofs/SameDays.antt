@@ -1,10 +1,11 @@
 -- Runs of the same days: what is known of them over one set of days is known over the other.
-use Rattle.cif_weeks.proofs.Names.{Breaks, Fits, Form, IsGrown, One, Permanent, Two, Window, inl, inr, week_of, ℕ, ◌+◌}
+use Rattle.cif_weeks.proofs.Names.{Breaks, Fits, Form, IsGrown, One, Permanent, Three, Two, Window, inl, inr, week_of, ℕ, ◌+◌}
 use Rattle.cif_weeks.proofs.Masks.{mask-over}
 
 module _ {B : Type 0} (window : Window) {on other : ℕ → Type 0} (forth : (n : ℕ) → on n → other n) (back : (n : ℕ) → other n → on n)
     (r : Permanent B) where
   fits-over : (form : Form) (week : ℕ) → Fits form window on r.days week → Fits form window other r.days week
+  fits-over Three week f = f
   fits-over One week m = mask-over week r.days (λ n _. forth n) (λ n _. back n) m
   fits-over Two week f = record { shows = λ n at h. f.shows n at (back n h); full = λ n at within runs. forth n (f.full n at within runs) }
 
@@ -21,6 +22,7 @@ module _ {B : Type 0} (window : Window) {on other : ℕ → Type 0} (forth : (n 
   }
 
   pub breaks-over : (form : Form) → Breaks form window on r → Breaks form window other r
+  breaks-over Three h = h
   breaks-over One h = λ next m. h next (mask-over (week_of r.last + 1) next (λ n _. back n) (λ n _. forth n) m)
   breaks-over Two (n, t) = (
     n,

@@ -5,6 +5,8 @@ use Rattle.cif_weeks.proofs.Names.{IsPartitionPoint, List, Run, Shows, Span, Win
 use Rattle.cif_weeks.proofs.Names.{get_or-drop, get_or-take, get_or_default, inl, inr, is_lt, leb, leb-false, leb-true, length, length-drop}
 use Rattle.cif_weeks.proofs.Names.{length-take, letter, nat_cmp, nat_tests, ordering_then, subst, sym, take, true, ℕ, ⊎_elim, ◌++◌, ◌+◌}
 use Rattle.cif_weeks.proofs.Names.{◌<◌, ◌∙◌, ◌≡◌, ◌≢◌, ◌≤◌}
+use Rattle.cif_weeks.proofs.Names.{IsWithin, dates_of}
+use Rattle.cif_weeks.proofs.Forms.{made-first}
 use Rattle.cif_weeks.proofs.Cuts.{Contains-take, cut-cases, cut-first, cut-rest, take-contains}
 use Rattle.cif_weeks.proofs.SpanRuns.{AreRunsOf, runs-joined, runs-of_body, runs-over}
 use Rattle.cif_weeks.specs.Steps.BodyRuns.{HasBody}
@@ -109,10 +111,11 @@ module _ (left : List Span) (span : Span) (count : ℕ) (order : AreBySource lef
     }
 
     -- the runs of the source are made too
-    pub runs-more : (form : Form) (window : Window) (runs added : List Run) → ((n : ℕ) → IsAgreed spans n) →
+    pub runs-more : (form : Form) (window : Window) (runs added : List Run) →
+        ((n : ℕ) → Shows spans span.source n → IsWithin window n) → ((n : ℕ) → IsAgreed spans n) →
         AreRunsOf form window spans (HasNot left) runs → AreRunsOfBody form window (take count left) span.source added →
         AreRunsOf form window spans (HasNot (drop count left)) (runs ++ added)
-    runs-more form window runs added agreed x y = runs-joined form window spans
+    runs-more form window runs added inside agreed x y = runs-joined form window spans
         (λ i h s in_s. h s (other s in_s).0)
         (λ i is s in_s same. let after = (other s in_s).1 in omega arith)
         (λ i h. ⊎_elim
@@ -127,7 +130,7 @@ module _ (left : List Span) (span : Span) (count : ℕ) (order : AreBySource lef
         (runs-over form window (take count left) spans
         (λ i n is shows. subst (λ v. Shows spans v n) is (shows-all n (subst (λ v. Shows (take count left) v n) (sym is) shows)))
         (λ i n is shows. subst (λ v. Shows (take count left) v n) is (shows-own n (subst (λ v. Shows spans v n) (sym is) shows)))
-        agreed (runs-of_body form window (take count left) span.source added y))
+        agreed (runs-of_body form window (take count left) span.source (λ n shows. inside n (shows-all n shows)) added y))
 
     -- what is left still has all spans of its sources
     pub whole-rest : (s t : Span) → Contains spans s → Contains (drop count left) t → s.source ≡ t.source → Contains (drop count left) s
@@ -157,7 +160,7 @@ module _ (form : Form) (window : Window) (spans : List Span) where
       record {
         each = λ r listed.
             let (_, grown) = h.each r listed in
-            let f = grown.first_runs in
+            let f = made-first window (Shows spans r.source) (dates_of r) form grown in
             ((f.it, f.listed, All-contains HasBody spans f.it bodied f.listed, f.is), grown);
         once = h.once;
         apart = h.apart;

@@ -13,3 +13,8 @@ Applies r n = entry.Applies (terms_of r) n
 pub record IsWeekOf {B : Type 0} (r : Permanent B) (week : ℕ) : Type 0 where
   pub begun : week_of r.first ≤ week
   pub unfinished : week ≤ week_of r.last
+
+-- Day n is in the record's range, from its first to its last day.
+pub record IsInRange {B : Type 0} (r : Permanent B) (n : ℕ) : Type 0 where
+  pub from : r.first ≤ n
+  pub upto : n ≤ r.last

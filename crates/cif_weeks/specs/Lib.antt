@@ -1,6 +1,7 @@
 pub mod Aligned
 pub mod Applies
 pub mod Canonical
+pub mod Exact
 pub mod HaveForm
 pub mod Meets
 pub mod MemberRuns

@@ -6,13 +6,14 @@ ghost use Rattle.std.specs.Prelude.{List, MatchBool, Some, length, map, ℕ};
 ghost use Rattle.std.specs.List.Sorted.{IsNonDecreasingBy};
 ghost use Rattle.cif_columns.specs.Day.{IsDay, week_of};
 ghost use Rattle.cif_calendar.specs.Source.{body_at};
-ghost use Rattle.cif_weeks.specs.{Steps.BodyRuns.AreGrownTo, Steps.BodyRuns.AreNextWeeks, Steps.BodyRuns.AreRunsOfBody, Window.IsWithin};
+ghost use Rattle.cif_weeks.specs.Steps.BodyRuns.{AreAdded, AreBodyRuns, AreFewestBefore, AreGrownTo, AreNextWeeks, AreRunsOfBody, monday_of};
 ghost use Rattle.cif_weeks.specs.Steps.Spans.{AgreeOn, HaveOneMask, IsDisputed, IsSourceAmong, Leads, Shows};
-ghost use Rattle.cif_weeks.specs.{Window.window_days, declared.form.Run.Run, declared.span.Span.Span};
+ghost use Rattle.cif_weeks.specs.{Steps.Growing.IsByWeeks, Window.IsWithin, Window.window_days, declared.form.Run.Run, declared.span.Span.Span};
 
-use crate::form::{Joining, Run};
+use crate::fewest::add_days;
+use crate::form::{Form, Joining, Run};
 use crate::span::{Span, Weeks, no_days};
-use cif_calendar::{Entry, same_body};
+use cif_calendar::{Entry, Window, same_body};
 use cif_columns::Day;
 use std::alloc::AllocError;
 
@@ -108,16 +109,17 @@ fn grow(
     source: usize,
     joining: &Joining,
 ) -> Result<(), AllocError>
+    requires by_weeks { IsByWeeks joining.now.form }
     requires shown { (spans : List Span)
         × AreNextWeeks (window_days joining.now.window) spans source week weeks }
     requires in_range { IsDay joining.now.window.last }
     ensures { IfOk result (λ _. (spans : List Span) (old : List Run)
         → AreNextWeeks (window_days joining.now.window) spans source week weeks
         → length old ≡ start
-        → AreGrownTo joining.now.form (window_days joining.now.window)
-        (Shows spans source) source week old runs.old.items
-        → AreGrownTo joining.now.form (window_days joining.now.window)
-        (Shows spans source) source (weeks.last + 1) old runs.new.items) }
+        → AreAdded old runs.old.items (AreBodyRuns joining.now.form
+        (window_days joining.now.window) (Shows spans source) source week)
+        → AreAdded old runs.new.items (AreBodyRuns joining.now.form
+        (window_days joining.now.window) (Shows spans source) source (weeks.last + 1))) }
 {
     let Some(first_weekday) = weeks.days.first() else {
         return Ok(());
@@ -143,6 +145,69 @@ fn grow(
         source,
     })?;
     Ok(())
+}
+
+/// Adds the next weeks, in which the body at `source` is shown, to its runs in form 3, which are those
+/// from `start` on.
+fn add_weeks_days(
+    runs: &mut Vec<Run>,
+    start: usize,
+    week: u32,
+    weeks: Weeks,
+    source: usize,
+    window: &Window,
+) -> Result<(), AllocError>
+    requires shown { (spans : List Span)
+        × AreNextWeeks (window_days window.now) spans source week weeks }
+    requires in_range { IsDay window.now.last }
+    ensures { IfOk result (λ _. (spans : List Span) (old : List Run)
+        → AreNextWeeks (window_days window.now) spans source week weeks
+        → length old ≡ start
+        → AreAdded old runs.old.items
+        (AreFewestBefore (Shows spans source) source (monday_of week))
+        → AreAdded old runs.new.items
+        (AreFewestBefore (Shows spans source) source (monday_of (weeks.last + 1)))) }
+{
+    let Some(first_weekday) = weeks.days.first() else {
+        return Ok(());
+    };
+    let Some(last_weekday) = weeks.days.last() else {
+        return Ok(());
+    };
+    let next = Run {
+        first: day_of(week, first_weekday),
+        last: day_of(weeks.last, last_weekday),
+        days: weeks.days,
+        source,
+    };
+    add_days(runs, start, next)
+}
+
+/// Adds the next weeks, in which the body at `source` is shown, to its runs, which are those from
+/// `start` on.
+fn add_weeks(
+    runs: &mut Vec<Run>,
+    start: usize,
+    week: u32,
+    weeks: Weeks,
+    source: usize,
+    joining: &Joining,
+) -> Result<(), AllocError>
+    requires shown { (spans : List Span)
+        × AreNextWeeks (window_days joining.now.window) spans source week weeks }
+    requires in_range { IsDay joining.now.window.last }
+    ensures { IfOk result (λ _. (spans : List Span) (old : List Run)
+        → AreNextWeeks (window_days joining.now.window) spans source week weeks
+        → length old ≡ start
+        → AreGrownTo joining.now.form (window_days joining.now.window)
+        (Shows spans source) source week old runs.old.items
+        → AreGrownTo joining.now.form (window_days joining.now.window)
+        (Shows spans source) source (weeks.last + 1) old runs.new.items) }
+{
+    match joining.form {
+        Form::One | Form::Two => grow(runs, start, week, weeks, source, joining),
+        Form::Three => add_weeks_days(runs, start, week, weeks, source, &joining.window),
+    }
 }
 
 /// The weeks, from the first to the last, in which spans have this source.
@@ -193,7 +258,7 @@ pub(crate) fn add_body_runs(
                 return Ok(false);
             };
             let next = weeks.last + 1;
-            grow(runs, start, from, weeks, source, joining)?;
+            add_weeks(runs, start, from, weeks, source, joining)?;
             week = next;
         }
     }

@@ -1,5 +1,5 @@
-//! Canonical records by the position of their bodies, their two forms, and whether two weeks that follow
-//! one another are joined in these.
+//! Canonical records by the position of their bodies, their three forms, and whether two weeks that follow
+//! one another are joined in the first two.
 
 ghost use Rattle.std.specs.Prelude.{◌≡◌, ◌<◌, ◌+◌, ◌↔◌, ℕ, IsPermutation, IsTrue, MatchBool};
 ghost use Rattle.std.specs.List.Sorted.{IsNonDecreasingBy};
@@ -31,9 +31,9 @@ pub(crate) fn sort_by_first(runs: &mut Vec<Run>)
 
 /// How the dates on which a body runs are written as records.
 ///
-/// In both forms a record is a longest sequence of consecutive weeks, Monday to Sunday, that the form
+/// In forms 1 and 2 a record is a longest sequence of consecutive weeks, Monday to Sunday, that the form
 /// joins. The body runs in each of them, and the record's first and last date are the first and
-/// last on which it runs there.
+/// last on which it runs there. In form 3 weeks don't count.
 #[derive(Clone, Copy, PartialEq, Eq)]
 pub enum Form {
     /// The mask of a week has the weekdays on which the body runs in it, and two consecutive weeks
@@ -45,6 +45,9 @@ pub enum Form {
     /// of a record has the weekdays of all its weeks. So two weeks that lie wholly in the window
     /// are joined as in form 1.
     Two,
+    /// The fewest records: each goes on as long as can be. It ends where a weekday of its mask is left
+    /// out, or where the body runs on a further weekday that it left out since the record's first date.
+    Three,
 }
 
 /// How consecutive weeks are joined: in a form, where a window may cut the first and the last of them.
@@ -65,7 +68,7 @@ impl Joining {
             Counts self.now.form (window_days self.now.window) week weekday }
     {
         match self.form {
-            Form::One => true,
+            Form::One | Form::Three => true,
             Form::Two => {
                 let day = u64::from(next) * u64::from(DAYS_IN_WEEK) + u64::from(weekday);
                 let first = self.window.first.days_since_first_monday() + DAYS_IN_WEEK;

@@ -1,10 +1,11 @@
-//! Masks of weeks and records that are joined over weeks, in two canonical forms, and why what
+//! Masks of weeks and records that are joined over weeks, in three canonical forms, and why what
 //! runs on each day determines them.
 #![tactic(auto)]
 
 mod body_runs;
 mod calendar_runs;
 mod few;
+mod fewest;
 mod form;
 pub mod laws;
 mod span;

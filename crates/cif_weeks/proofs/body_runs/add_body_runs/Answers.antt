@@ -2,7 +2,7 @@
 -- the runs are made (`body-made`).
 use Rattle.cif_weeks.proofs.Names.{Shows, arith, cases_lt, sym, week_of, window_days, ℕ, ⊎_elim, ◌+◌, ◌<◌, ◌∙◌, ◌≤◌}
 use Rattle.cif_weeks.proofs.ActiveSpans.{SameOn, agree-all, disputed-all, left-fewer, left-later, left-same, mask-all, none-after}
-use Rattle.cif_weeks.proofs.{ActiveSpans.none-before, BodyRuns.body-idle, BodyRuns.body-made, body_runs.add_body_runs.Goals.Else-min-from}
+use Rattle.cif_weeks.proofs.{ActiveSpans.none-before, BodyRuns.body-made, BodyRuns.runs-idle, body_runs.add_body_runs.Goals.Else-min-from}
 use Rattle.cif_weeks.proofs.body_runs.add_body_runs.Goals as goal
 
 pub loop-left-preserved-then-min-from : goal.loop-left-preserved-then-min-from
@@ -26,12 +26,12 @@ returns-in_default-weeks_shown c =
     let (n, at, disputed) = c.in_default-weeks_shown.ensures.disputed in
     (n, disputed-all (same j n (omega arith) (omega (arith, c.if-min-from.false))) disputed)
 
-pub grow-requires-clause-shown : goal.grow-requires-clause-shown
-grow-requires-clause-shown c = (
+pub add_weeks-requires-clause-shown : goal.add_weeks-requires-clause-shown
+add_weeks-requires-clause-shown c = (
   c.args.spans.now,
   record {
     inside = c.requires.inside;
-    one_mask = mask-all (same (goal.at.grow-requires-clause-shown c).Else-min-from) c.in-Some.ensures.weeks;
+    one_mask = mask-all (same (goal.at.add_weeks-requires-clause-shown c).Else-min-from) c.in-Some.ensures.weeks;
   },
 )
 
@@ -46,11 +46,11 @@ loop-left-preserved c =
     (shows : Shows a.spans.now a.source n). none-before i.left c.span-item.result c.in-len1-up.len_at_least c.span-item.is n from
     (c.weeks_of-first.ensures.weeks n shows).1 (omega arith) shows in
     record {
-      grown = c.in_ok-grow.ensures a.spans.now a.runs.now.items
+      grown = c.in_ok-add_weeks.ensures a.spans.now a.runs.now.items
           (record { inside = c.requires.inside; one_mask = mask-all (same j) shown.weeks }) (sym (c.len-start.ensures ∙ a.runs.now.ok.0)) (
             i.grown.0,
             i.grown.1,
-            body-idle a.joining.now.form (window_days a.joining.now.window) (Shows a.spans.now a.source)
+            runs-idle a.joining.now.form (window_days a.joining.now.window) (Shows a.spans.now a.source)
                 a.source
                 c.loop-left.week c.max-from.result i.grown.0 (omega arith) (λ n from less. none n from less) i.grown.2,
           );

@@ -57,7 +57,8 @@ loop-left-preserved c =
     let window = window_days c.args.joining.now.window in
     rw (c.split_at.ensures.back, are) (record {
       runs = runs-more left span count l.order c.span-item.is c.in-len1-up.len_at_least (point here) c.args.spans.now l.left l.whole
-          c.requires.level c.args.joining.now.form window c.loop-left.runs.items added c.requires.agreed l.runs
+          c.requires.level c.args.joining.now.form window c.loop-left.runs.items added (c.requires.inside span.source)
+          c.requires.agreed l.runs
           (subst (λ ss. AreRunsOfBody c.args.joining.now.form window ss span.source added) c.split_at.ensures.front runs);
       left = λ s listed. l.left s (other left span count l.order c.span-item.is c.in-len1-up.len_at_least (point here) s listed).0;
       whole = whole-rest left span count l.order c.span-item.is c.in-len1-up.len_at_least (point here) c.args.spans.now l.left l.whole

@@ -16,7 +16,7 @@ loop-number-preserved c =
     let (added, are, runs) = rw c.if-not-branch.false at c.in_ok-add_body_runs.ensures in
     rw (take_more c.args.spans.now c.loop-number.number c.index-spans-number.result c.loop-number-test.true, ← c.index-spans-number.is, are)
     (runs-added _ _ _ _ _ c.loop-number.invariant c.if-is_added.ensures.0 c.if-is_added.ensures.1
-    (runs-of_body _ _ _ _ added runs))
+    (runs-of_body _ _ _ _ (c.requires.inside _) added runs))
 
 pub returns : goal.returns
 returns c =
