@@ -1,11 +1,11 @@
 -- What a canonical extract says fits the columns of lines, where what it is made of does.
 use Rattle.cif_canon.proofs.Names.{All, All-cons, All-contains, All-head, All-nil, All-tail, AllFit, AllZip, AreCanonical}
 use Rattle.cif_canon.proofs.Names.{AreCanonicalRecords, AreDistinct, AssocBody, AssocKey, BodyLines, Bool, Contains-get_or, Detail}
-use Rattle.cif_canon.proofs.Names.{ExtractParts, FitsColumns, Form, IfSome, IsAligned, IsBody, IsDay, IsRunOf, IsWithin, List, One}
-use Rattle.cif_canon.proofs.Names.{Ordering, P, Permanent, Run, Schedule, ScheduleFits, Some, Stp, Terms, Tiploc, Two, Window, [], ap}
+use Rattle.cif_canon.proofs.Names.{ExtractParts, FitsColumns, Form, IfSome, IsAligned, IsBody, IsDay, IsRunOf, IsWithin, List}
+use Rattle.cif_canon.proofs.Names.{Ordering, P, Permanent, Run, Schedule, ScheduleFits, Some, Stp, Terms, Tiploc, Window, [], ap}
 use Rattle.cif_canon.proofs.Names.{arith, association_entries, association_entry, association_rows, association_table, basic_rows}
 use Rattle.cif_canon.proofs.Names.{detail_of, get_or, header_window, key_cmp, length, map, nat_cmp, option_map, refl, schedule_entries}
-use Rattle.cif_canon.proofs.Names.{schedule_entry, slice_cmp, slice_get, subst, suc, tiploc_table, zero, ℕ, ◌∙◌, ◌∷◌, ◌≡◌}
+use Rattle.cif_canon.proofs.Names.{schedule_entry, slice_cmp, slice_get, subst, suc, tight, tiploc_table, zero, ℕ, ◌∙◌, ◌∷◌, ◌≡◌}
 use Rattle.cif_records.proofs.Headers as headers
 use Rattle.cif_records.specs.declared.association.Association.{Association}
 use Rattle.cif_canon.proofs.KeptExtract.{canonical_of, dated-associations, dated-schedules}
@@ -45,8 +45,7 @@ found-at entry Fits (x ∷ xs) (suc i) y fits at = found-at entry Fits xs i y (A
 
 within-one : {B : Type 0} (form : Form) (window : Window) (r : Permanent B) → IsAligned form window r →
     IsWithin window r.first × IsWithin window r.last × (length r.days ≡ 7)
-within-one One window r a = (a.first_within, a.last_within, a.seven)
-within-one Two window r a = (a.first.within, a.last.within, a.seven)
+within-one form window r a = let t = tight r window form a in (t.first_within, t.last_within, t.seven)
 
 abbrev pub HasTerms : {K B : Type 0} → K × Permanent B → Type 0
 HasTerms e = AreTerms e.1.first e.1.last e.1.days
