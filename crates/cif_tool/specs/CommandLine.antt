@@ -35,7 +35,7 @@ words_in choice = map (λ word. word.now) choice.now
 
 -- the words that name a form, a format and a table
 pub record AreChoices (choices : Choices) : Type 0 where
-  pub forms : words_in choices.forms ≡ codes "1" ∷ codes "2" ∷ []
+  pub forms : words_in choices.forms ≡ codes "1" ∷ codes "2" ∷ codes "3" ∷ []
   pub formats : words_in choices.formats ≡ codes "text" ∷ codes "tsv" ∷ []
   pub tables : words_in choices.tables
       ≡ codes "header" ∷ codes "tiplocs" ∷ codes "associations" ∷ codes "schedules" ∷ codes "calls" ∷ codes "changes"

@@ -8,7 +8,8 @@ use Rattle.cif_canon.specs.declared.rows.Format.TheVariants as format
 use Rattle.cif_views.specs.declared.{listing.Listing.Listing, tables.Table.Table as TableOf}
 use Rattle.cif_views.specs.declared.tables.Table.TheVariants as table
 use Rattle.cif_columns.specs.{Day.StandsInYymmdd, Uid.IsUid}
-use Rattle.cif_weeks.specs.declared.{form.Form.Form, form.Form.TheVariants.One, form.Form.TheVariants.Two}
+use Rattle.cif_weeks.specs.declared.{form.Form.Form, form.Form.TheVariants.One, form.Form.TheVariants.Three}
+use Rattle.cif_weeks.specs.declared.form.Form.TheVariants.{Two}
 use Rattle.cif_tool.specs.{CommandLine.AreChoices, CommandLine.chosen, CommandLine.faults_of, declared.job.Job.TheVariants.Train}
 use Rattle.cif_tool.specs.declared.{command_line.Choices.Choices, job.FeedJob.FeedJob, job.FeedJob.TheVariants.Prepare}
 use Rattle.cif_tool.specs.declared.{job.FeedJob.TheVariants.Update, job.InputNames.InputNames, job.Job.Job, job.Request.Request}
@@ -61,7 +62,7 @@ pub record IsAskedBy (rows : List Row) (asked : Asked) : Type 0 where
 
 -- the form that the word of `--form` names
 abbrev pub form_of : Option Text → Form
-form_of (Some word) = if bytes_eq word (codes "1") then One else Two
+form_of (Some word) = if bytes_eq word (codes "1") then One else (if bytes_eq word (codes "3") then Three else Two)
 form_of None = Two
 
 abbrev pub is_set : Option Text → Bool

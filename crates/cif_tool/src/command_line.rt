@@ -107,7 +107,7 @@ pub(crate) fn all_choices() -> Choices<'static>
     ensures { AreChoices result }
 {
     Choices {
-        forms: &["1", "2"],
+        forms: &["1", "2", "3"],
         formats: &["text", "tsv"],
         tables: &[
             "header",

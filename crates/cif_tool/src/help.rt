@@ -24,7 +24,8 @@ Writes the canonical extract of what the input says
 Prints an extract of permanent records only. On each date at most one record of
 a train or an association applies. If the input is refused, prints nothing.
 Form 1 joins weeks that have the same days. Form 2 also joins a week that the
-window cuts, if its remaining days match the other week's.
+window cuts, if its remaining days match the other week's. Form 3 has the fewest
+records: each goes on as long as can be, in whatever weeks.
 
 Example:
   cif normalise --from 260105 --to 260118 extract.cif > canonical.cif
@@ -43,7 +44,8 @@ With --all each line is judged by itself first, even if an earlier one is
 refused. If some are refused, prints a line for each reason instead:
   REASON: N lines, first at line L
 Form 1 joins weeks that have the same days. Form 2 also joins a week that the
-window cuts, if its remaining days match the other week's.
+window cuts, if its remaining days match the other week's. Form 3 has the fewest
+records: each goes on as long as can be, in whatever weeks.
 
 Examples:
   cif check extract.cif
@@ -128,7 +130,8 @@ Prints a line for each schedule that the train has in the canonical extract:
   FIRST LAST DAYS IDENTITY ORIGIN DEPARTURE PLATFORM TERMINUS ARRIVAL PLATFORM
 --stops and --format tsv work as in `cif day`.
 Form 1 joins weeks that have the same days. Form 2 also joins a week that the
-window cuts, if its remaining days match the other week's.
+window cuts, if its remaining days match the other week's. Form 3 has the fewest
+records: each goes on as long as can be, in whatever weeks.
 
 Example:
   cif train C00123 extract.cif
@@ -191,7 +194,8 @@ Prints field names in the first line, and then a row for each of these:
 Tabs separate fields, and dates are YYYY-MM-DD. The first six together say what
 the canonical extract says.
 Form 1 joins weeks that have the same days. Form 2 also joins a week that the
-window cuts, if its remaining days match the other week's.
+window cuts, if its remaining days match the other week's. Form 3 has the fewest
+records: each goes on as long as can be, in whatever weeks.
 
 Examples:
   cif table schedules extract.cif > schedules.tsv
@@ -313,6 +317,6 @@ pub(crate) const DROP_CLASHES: &str = "Leave out what has a clash, on the dates 
 
 pub(crate) const LENIENT: &str = "Go on if an update doesn't follow, or a line doesn't fit";
 
-pub(crate) const FORM: &str = "How to join weeks";
+pub(crate) const FORM: &str = "How to join dates";
 
 pub(crate) const FORMAT: &str = "Layout";

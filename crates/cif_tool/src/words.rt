@@ -374,6 +374,7 @@ fn form_of(matches: &ArgMatches<'_>) -> Form
 {
     match word_of(matches, "form") {
         Some("1") => Form::One,
+        Some("3") => Form::Three,
         _ => Form::Two,
     }
 }
