@@ -2,7 +2,7 @@
 use Rattle.cif_weeks.proofs.Names.{Bool, IsAmongDates, IsExact, List, None, Option, RunsOn, Some, [], arith, cases_lt, false, inl, inr, length}
 use Rattle.cif_weeks.proofs.Names.{refl, slice_get, subst, suc, sym, true, week_of, weekday_of, zero, ℕ, ⊎_elim, ◌%◌, ◌*◌, ◌+◌, ◌-◌, ◌<◌}
 use Rattle.cif_weeks.proofs.Names.{◌↔◌, ◌∙◌, ◌∷◌, ◌≡◌, ◌≤◌, ◌⊎◌}
-use Rattle.cif_weeks.proofs.WeekDays.{RunsOn-below, day_rises_week, masks_equal, week_later, weekday_later}
+use Rattle.cif_weeks.proofs.WeekDays.{day_rises_week, masks_equal, week_later, weekday_later}
 
 -- ---- masks of weekdays that are told apart
 
@@ -53,8 +53,10 @@ start-first : (a n : ℕ) → a ≤ n → start a (weekday_of n) ≤ n
 start-first a n upto = omega arith
 
 module _ {on : ℕ → Type 0} where
-  -- from the first day to another day of the set a part is exact
-  module _ (a b c : ℕ) (days : List Bool) (e : IsExact on a c days) (from : a ≤ b) (upto : b ≤ c) (on_b : on b) where
+  -- Between two days of the set a mask shows just the days of the set: then the weekdays of those are exact.
+  module _ (a b : ℕ) (days : List Bool) (order : a ≤ b) (on_a : on a) (on_b : on b)
+      (only : (n : ℕ) → a ≤ n → n ≤ b → RunsOn days (weekday_of n) → on n)
+      (all : (n : ℕ) → a ≤ n → n ≤ b → on n → RunsOn days (weekday_of n)) where
     abbrev IsPartDay : ℕ → Type 0
     IsPartDay w = RunsOn days w × (start a w ≤ b)
 
@@ -67,37 +69,38 @@ module _ {on : ℕ → Type 0} where
         (λ not. inr (λ h. not h.0))
         (runs-cases days w)
 
-    pub exact-part : (part : List Bool) × IsExact on a b part
-    exact-part =
+    pub exact-within : (part : List Bool) × IsExact on a b part
+    exact-within =
         let (part, long, is) = mask-of 7 IsPartDay known in (
           part,
           record {
             seven = long;
-            in_order = from;
-            first_on = e.first_on;
+            in_order = order;
+            first_on = on_a;
             last_on = on_b;
-            only = λ n h. e.only n (record {
-              begun = h.begun;
-              unfinished = omega (arith, h.unfinished, upto);
-              on_weekday = ((is (weekday_of n)).0 h.on_weekday).0.0;
-            });
-            all = λ n begun unfinished runs.
-                let h = e.all n begun (omega (arith, unfinished, upto)) runs in
-                record {
-                  begun = begun;
-                  unfinished = unfinished;
-                  on_weekday = (is (weekday_of n)).1
-                      ((h.on_weekday, omega (arith, start-first a n begun, unfinished)), RunsOn-below days (weekday_of n) e.seven h.on_weekday);
-                };
+            only = λ n h. only n h.begun h.unfinished ((is (weekday_of n)).0 h.on_weekday).0.0;
+            all = λ n begun unfinished runs. record {
+              begun = begun;
+              unfinished = unfinished;
+              on_weekday = (is (weekday_of n)).1
+                  ((all n begun unfinished runs, omega (arith, start-first a n begun, unfinished)), omega arith);
+            };
             used = λ w has.
                 let ((runs, begun), below) = (is w).0 has in
-                let day = start-weekday a w below in (
+                let day = start-weekday a w below in
+                (
                   start a w,
                   day,
                   record { begun = omega arith; unfinished = begun; on_weekday = subst (RunsOn part) (sym day) has },
                 );
           },
         )
+
+  -- from the first day to another day of the set a part is exact
+  pub exact-part : (a b c : ℕ) (days : List Bool) → IsExact on a c days → a ≤ b → b ≤ c → on b → (part : List Bool) × IsExact on a b part
+  exact-part a b c days e order upto on_b = exact-within a b days order e.first_on on_b
+      (λ n begun unfinished has. e.only n (record { begun = begun; unfinished = omega arith; on_weekday = has }))
+      (λ n begun unfinished runs. (e.all n begun (omega arith) runs).on_weekday)
 
   module _ (first last : ℕ) (days : List Bool) (e : IsExact on first last days) where
     -- they show their first and their last day

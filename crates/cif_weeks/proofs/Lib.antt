@@ -3,6 +3,7 @@ pub mod AgreedDays
 pub mod AlignedDays
 pub mod BodyRuns
 pub mod CalendarSources
+pub mod CountedRecords
 pub mod Cuts
 pub mod Ended
 pub mod Exact

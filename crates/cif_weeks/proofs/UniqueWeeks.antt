@@ -78,7 +78,7 @@ fields_equal : {B : Type 0} (f g l m : ℕ) (d e : List Bool) (a b : B) → f �
     → ◌≡◌ {A = Permanent B} (record { first = f; last = l; days = d; body = a }) (record { first = g; last = m; days = e; body = b })
 fields_equal f g l m d e a b p q r s = cc
 
-records_equal : {B : Type 0} (r s : Permanent B) → r.first ≡ s.first → r.last ≡ s.last → r.days ≡ s.days → r.body ≡ s.body → r ≡ s
+pub records_equal : {B : Type 0} (r s : Permanent B) → r.first ≡ s.first → r.last ≡ s.last → r.days ≡ s.days → r.body ≡ s.body → r ≡ s
 records_equal r s a b c d = fields_equal r.first s.first r.last s.last r.days s.days r.body s.body a b c d
 
 -- records with one body that apply on the same days are equal

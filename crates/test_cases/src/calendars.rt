@@ -5,7 +5,7 @@
 //! `calendar from=YYMMDD to=YYMMDD members=N,N`: the window is the header's, or begins or ends with
 //! these dates; the records are all, or those at these positions. The answer is the window, the dates
 //! with their sources, the pieces with the sources of their weekdays from Monday on, and the runs in
-//! both forms with their sources; or the date on which the extract is ambiguous.
+//! each form with their sources; or the date on which the extract is ambiguous.
 //!
 //! A source is named by the first position of a record with the same body, as several records may
 //! have it; where there is none, by a hyphen.

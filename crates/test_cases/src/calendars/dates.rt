@@ -48,7 +48,8 @@ fn push_dates<E: Entry>(alloc: Global, out: &mut Output, entries: &[E], calendar
     push_sources(out, entries, calendar);
     push_pieces(out, entries, calendar.pieces());
     push_runs(alloc, out, entries, calendar, Form::One);
-    push_runs(alloc, out, entries, calendar, Form::Two)
+    push_runs(alloc, out, entries, calendar, Form::Two);
+    push_runs(alloc, out, entries, calendar, Form::Three)
 }
 
 /// The calendar of these members.

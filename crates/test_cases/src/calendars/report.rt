@@ -93,6 +93,7 @@ pub(crate) fn push_run<E: Entry>(out: &mut Output, entries: &[E], form: Form, ru
     let label = match form {
         Form::One => "form 1",
         Form::Two => "form 2",
+        Form::Three => "form 3",
     };
     push_dates(out, label, run.first, run.last);
     let place = first_alike(entries, Some(run.source));

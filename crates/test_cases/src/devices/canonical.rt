@@ -72,6 +72,7 @@ fn push_line(alloc: Global, out: &mut Output, answer: &Result<Counts, Fault>) {
 fn form_of(case: &Case) -> Form {
     match case.value("form") {
         Some("1") => Form::One,
+        Some("3") => Form::Three,
         _ => Form::Two,
     }
 }
