@@ -22,3 +22,5 @@ pub mod ExampleMeaning
 pub mod ExampleHolidays
 pub mod ExampleSchedules
 pub mod ExampleFeed
+pub mod FewestRecords
+pub mod CanonicalWindows

@@ -1,3 +1,4 @@
+pub mod Fewest
 pub mod Examples
 pub mod PublishedFeed
 pub mod Feeds

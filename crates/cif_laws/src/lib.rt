@@ -4,3 +4,4 @@
 
 pub mod canonical;
 pub mod feeds;
+pub mod fewest_records;

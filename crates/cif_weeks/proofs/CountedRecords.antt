@@ -1,6 +1,6 @@
 -- Records of form 3 are no more than others that say the same and don't overlap; and where one record is exact, it is the only one.
 use Rattle.cif_weeks.proofs.Names.{All-contains, AllPairs, Bool, Contains, Contains-cases, Contains-first, Contains-rest, HaveForm, IsExact}
-use Rattle.cif_weeks.proofs.Names.{ IsWithin, List, Permanent}
+use Rattle.cif_weeks.proofs.Names.{IsWithin, List, Permanent}
 use Rattle.cif_weeks.proofs.Names.{Permanents, RunsOn, Three, Window, [], ap, arith, cases_lt, get_or, inl, inr, length, refl, subst, suc}
 use Rattle.cif_weeks.proofs.Names.{sym, weekday_of, zero, ℕ, ⊎_elim, ◌+◌, ◌<◌, ◌↔◌, ◌∙◌, ◌∷◌, ◌≡◌, ◌≢◌, ◌≤◌, ◌⊎◌}
 use Rattle.cif_weeks.proofs.AlignedDays.{within-tight}
@@ -58,7 +58,7 @@ module _ {X Y : Type 0} (R : X → Y → Type 0) where
 
 module _ {B : Type 0} (window : Window) (xs : Permanents B) (x : HaveForm Three window xs) where
   -- the days on which a record with body b applies lie in the window
-  within-body : (b : B) (n : ℕ) → HasBody xs n b → IsWithin window n
+  pub within-body : (b : B) (n : ℕ) → HasBody xs n b → IsWithin window n
   within-body b n h = within-tight h.it window (tight-fewest window xs x h.it h.listed) n h.applies
 
   -- ---- others that say the same of a body

@@ -87,8 +87,7 @@ module _ {on : ℕ → Type 0} where
             };
             used = λ w has.
                 let ((runs, begun), below) = (is w).0 has in
-                let day = start-weekday a w below in
-                (
+                let day = start-weekday a w below in (
                   start a w,
                   day,
                   record { begun = omega arith; unfinished = begun; on_weekday = subst (RunsOn part) (sym day) has },

@@ -15,7 +15,7 @@ module _ {K B : Type 0} (records : List (K × Permanent B)) (k : K) where
       let ((j, r), listed, is) = Contains-from_map (λ (e : K × Permanent B). (e.0, terms_of e.1)) records (k, t) h in
       (r, subst (λ i. of_key records i r) (ap (λ (e : K × Terms B). e.0) is) listed, ap (λ (e : K × Terms B). e.1) is)
 
-  record-entry : (r : Permanent B) → of_key records k r → of_key (permanent_entries records) k (terms_of r)
+  pub record-entry : (r : Permanent B) → of_key records k r → of_key (permanent_entries records) k (terms_of r)
   record-entry r h = Contains-map (λ (e : K × Permanent B). (e.0, terms_of e.1)) records (k, r) h
 
   permanent : (t : Terms B) → of_key (permanent_entries records) k t → (t.letter ≡ P) × IsSome t.body
