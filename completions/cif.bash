@@ -45,7 +45,7 @@ _cif() {
 
     if [[ -n $awaited ]]; then
         case $awaited in
-        --form) _cif_offer '1 2' ;;
+        --form) _cif_offer '1 2 3' ;;
         --format) _cif_offer 'text tsv' ;;
         --holidays) compopt -o default ;;
         esac

@@ -33,7 +33,7 @@ class Trial(NamedTuple):
 
 
 SAME = Answer(b"same\n", b"", 0)
-OTHER_FORM = {"1": "2", "2": "1", None: "1"}
+OTHER_FORMS = {"1": "23", "2": "13", "3": "12", None: "13"}
 BOTH = ("left.cif", "right.cif")
 
 # How many damaged inputs, how many cases with faults, and how many small damaged extracts and feeds are tried beside each case:
@@ -55,7 +55,7 @@ def counts_of(output: bytes) -> Answer:
 
 
 def of_canonical(job: Job, inputs: Inputs, output: bytes, options: bool) -> Iterator[Trial]:
-    """Of a canonical extract: that it is its own, that it says what its input says, and the other form."""
+    """Of a canonical extract: that it is its own, that it says what its input says, and the other forms."""
     plain_job = job._replace(files=())
     yield Trial("the output again", plain_job, [output], Answer(output, b"", 0))
     if job.first or job.last:
@@ -66,15 +66,12 @@ def of_canonical(job: Job, inputs: Inputs, output: bytes, options: bool) -> Iter
     )
     compared = Job("compare", BOTH, first=job.first, last=job.last)
     yield Trial("the input and its output", compared, [*inputs, output], SAME)
-    if options:
-        other = plain_job._replace(form=OTHER_FORM[job.form])
+    for form in OTHER_FORMS[job.form] if options else "":
+        other = plain_job._replace(form=form)
         others = answer(other, inputs)
-        yield Trial("the output in the other form", other, [output], others)
+        yield Trial(f"the output in form {form}", other, [output], others)
         yield Trial(
-            "the output back from the other form",
-            plain_job,
-            [others.stdout],
-            Answer(output, b"", 0),
+            f"the output back from form {form}", plain_job, [others.stdout], Answer(output, b"", 0)
         )
 
 

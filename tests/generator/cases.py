@@ -47,8 +47,8 @@ ALWAYS_KEPT = 32_768
 
 FORMATS, NO_FORMATS = (None, None, "text", "tsv", "tsv", "tsv"), ("csv", "TSV", "", "tsv ")
 NO_TABLES = ("stops", "Calls", "call", "", "schedules ")
-FORMS = (None, None, "1", "1", "2")
-NO_FORMS = ("3", "0", "", "12", "1 ", "one")
+FORMS = (None, None, "1", "2", "3", "3")
+NO_FORMS = ("4", "0", "", "12", "1 ", "one")
 BAD_DATE_WORDS: Tuple[str, ...] = (
     "260230",
     "2601141",

@@ -254,7 +254,7 @@ def is_mistake(job: Job) -> bool:
     )
     given = {name for name in names if getattr(job, name) not in (None, False)}
     taken = (
-        job.form in (None, "1", "2")
+        job.form in (None, "1", "2", "3")
         and job.format in (None, "text", "tsv")
         and job.table in (None, *tables.TABLES)
     )
