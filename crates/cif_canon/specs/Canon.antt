@@ -19,7 +19,7 @@ pub record IsCanonOf (form : Form) (x : ExtractParts) (c : CanonParts) : Type 0 
   pub canonical : IsCanonicalOf form x c.text
   -- it is equal to other canonical texts exactly if their inputs say the same
   pub unique : IsUnique form x c.text
-  -- whatever x was narrowed from: the text is its own canonical text, and that of each canonical text of either form that says the same
+  -- whatever x was narrowed from: the text is its own canonical text, and that of each canonical text of any form that says the same
   pub again : (asked : Asked) (whole : ExtractParts) → IsNarrowed asked whole x → IsNormalFormAgain form asked c.text c.text
   pub reached : (asked : Asked) (whole : ExtractParts) → IsNarrowed asked whole x → IsReachedFromForms form asked x c.text
   -- its lines are the plain lines of the extract that its text spells

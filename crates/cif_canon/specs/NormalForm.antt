@@ -32,6 +32,6 @@ pub record IsNormalFormAgain (form : Form) (asked : Asked) (others bytes : List 
   pub asked_again : IsNormalFormOf form asked others bytes
   pub unasked : IsNormalFormOf form nothing_asked others bytes
 
--- The way between the forms: whatever canonical bytes of x are read, of either form, these bytes are their canonical form.
+-- The way between the forms: whatever canonical bytes of x are read, of any form, these bytes are their canonical form.
 pub record IsReachedFromForms (form : Form) (asked : Asked) (x : ExtractParts) (bytes : List ℕ) : Type 0 where
   pub from : (other_form : Form) (others : List ℕ) → IsCanonicalOf other_form x others → IsNormalFormAgain form asked others bytes

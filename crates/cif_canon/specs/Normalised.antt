@@ -20,7 +20,7 @@ pub record IsNormalised (form : Form) (asked : Asked) (max : ℕ) (input text : 
   pub unique : IsUnique form meant text
   -- it is its own canonical text
   pub again : IsNormalFormAgain form asked text text
-  -- it is the canonical text of what either form has
+  -- it is the canonical text of what any form has
   pub reached : IsReachedFromForms form asked meant text
   -- the counts are those of its records
   pub counted : counts ≡ counts_of canonical.made

@@ -13,7 +13,7 @@ ghost use Rattle.cif_laws.specs.Examples.{example_canonical, example_input};
 ghost use Rattle.cif_weeks.specs.declared.{form.Form.Form, form.Form.TheVariants.Two};
 
 /// Canonical bytes of an input, narrowed to a part of their window, are what the input is, narrowed to that part: of
-/// either form, from either form.
+/// any form, from any form.
 pub fn canonical_extracts_narrow_as_their_inputs()
     ensures { (form other_form : Form) (asked asked_of_input asked_of_canonical : Asked)
         (input canonical narrower : List ℕ)

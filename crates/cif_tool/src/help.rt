@@ -317,6 +317,6 @@ pub(crate) const DROP_CLASHES: &str = "Leave out what has a clash, on the dates 
 
 pub(crate) const LENIENT: &str = "Go on if an update doesn't follow, or a line doesn't fit";
 
-pub(crate) const FORM: &str = "How to join dates";
+pub(crate) const FORM: &str = "Form of records";
 
 pub(crate) const FORMAT: &str = "Layout";

@@ -1,5 +1,6 @@
 -- The runs of one body, week by week: weeks without a day of it, a run that begins, and one that goes on.
-use Rattle.cif_weeks.proofs.Names.{AreAdded, AreBodyRuns, AreFewestBefore, AreGrownTo, AreRunsBefore, AreRunsOfBody, Bool, BreaksBefore, Form, HaveOneMask}
+use Rattle.cif_weeks.proofs.Names.{AreAdded, AreBodyRuns, AreFewestBefore, AreGrownTo, AreRunsBefore}
+use Rattle.cif_weeks.proofs.Names.{AreRunsOfBody, Bool, BreaksBefore, Form, HaveOneMask}
 use Rattle.cif_weeks.proofs.Names.{IsAgreed, IsByWeeks, IsDay, IsExact, One, Three, Two, monday_of}
 use Rattle.cif_weeks.proofs.Names.{IsFirstOf, IsGrown, IsLastDay, IsLastOf, IsLatest, IsMask, IsWithin, List, MasksAgree, MasksDiffer}
 use Rattle.cif_weeks.proofs.Names.{Permanent, Run, RunsOn, Shows, Span, Weeks, Window, [], ap, append-nil, append_assoc, arith, cases_lt}
@@ -7,7 +8,8 @@ use Rattle.cif_weeks.proofs.Names.{dates_of, get_or, get_or-append_seam, length,
 use Rattle.cif_weeks.proofs.Names.{reverse-reverse, set, subst, sym, week_of, weekday_of, ℕ, ⊎_elim, ◌*◌, ◌++◌, ◌+◌, ◌-◌, ◌<◌, ◌↔◌, ◌∙◌}
 use Rattle.cif_weeks.proofs.Names.{◌∷◌, ◌≡◌, ◌≤◌, ◌⊎◌}
 use Rattle.std.proofs.Math.Seq.{set-append_seam}
-use Rattle.cif_weeks.proofs.{Ended.breaks_differ, FewestRuns.fewest-idle, Growing.grown_more, Growing.grown_start, Jump.grown_jump, Masks.mask_runs}
+use Rattle.cif_weeks.proofs.{Ended.breaks_differ, FewestRuns.fewest-idle, Growing.grown_more}
+use Rattle.cif_weeks.proofs.{Growing.grown_start, Jump.grown_jump, Masks.mask_runs}
 use Rattle.cif_weeks.proofs.WeekDays.{RunsOn-below}
 
 module _ (form : Form) (window : Window) (on : ℕ → Type 0) (source : ℕ) where
@@ -40,8 +42,8 @@ module _ (form : Form) (window : Window) (on : ℕ → Type 0) (source : ℕ) wh
 
   module _ (inside : (n : ℕ) → on n → IsWithin window n) where
     -- weeks that have one mask, with the first weekday f and the last one l
-    module _ (by : IsByWeeks form) (week until : ℕ) (it : Weeks) (h : HaveOneMask on week until it) (f l : ℕ) (is_first : IsFirstOf it.days f)
-        (is_last : IsLastOf it.days l) where
+    module _ (by : IsByWeeks form) (week until : ℕ) (it : Weeks) (h : HaveOneMask on week until it) (f l : ℕ)
+        (is_first : IsFirstOf it.days f) (is_last : IsLastOf it.days l) where
       abbrev days : List Bool
       days = it.days
 

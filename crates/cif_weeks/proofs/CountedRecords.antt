@@ -1,10 +1,10 @@
 -- Records of form 3 are no more than others that say the same and don't overlap; and where one record is exact, it is the only one.
 use Rattle.cif_weeks.proofs.Names.{All-contains, AllPairs, Bool, Contains, Contains-cases, Contains-first, Contains-rest, HaveForm, IsExact}
 use Rattle.cif_weeks.proofs.Names.{IsWithin, List, Permanent}
-use Rattle.cif_weeks.proofs.Names.{Permanents, RunsOn, Three, Window, [], ap, arith, cases_lt, get_or, inl, inr, length, refl, subst, suc}
-use Rattle.cif_weeks.proofs.Names.{sym, weekday_of, zero, ℕ, ⊎_elim, ◌+◌, ◌<◌, ◌↔◌, ◌∙◌, ◌∷◌, ◌≡◌, ◌≢◌, ◌≤◌, ◌⊎◌}
+use Rattle.cif_weeks.proofs.Names.{Permanents, Three, Window, [], ap, arith, cases_lt, get_or, inl, inr, length, subst, suc}
+use Rattle.cif_weeks.proofs.Names.{sym, zero, ℕ, ⊎_elim, ◌+◌, ◌<◌, ◌↔◌, ◌∙◌, ◌∷◌, ◌≡◌, ◌≢◌, ◌≤◌, ◌⊎◌}
 use Rattle.cif_weeks.proofs.AlignedDays.{within-tight}
-use Rattle.cif_weeks.proofs.Exact.{exact-mask, exact-over, exact-part, exact-within}
+use Rattle.cif_weeks.proofs.Exact.{exact-mask, exact-part, exact-within}
 use Rattle.cif_weeks.proofs.UniqueFewest.{exact-record, longest-record, one-in-range, tight-fewest}
 use Rattle.cif_weeks.proofs.UniqueWeeks.{records_equal}
 use Rattle.cif_weeks.specs.{Applies.Applies, WhatRuns.HasBody}

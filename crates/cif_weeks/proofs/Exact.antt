@@ -1,5 +1,6 @@
 -- Dates and masks that are exact for a set of days: parts of them, other sets with the same days, and days near each week.
-use Rattle.cif_weeks.proofs.Names.{Bool, IsAmongDates, IsExact, List, None, Option, RunsOn, Some, [], arith, cases_lt, false, inl, inr, length}
+use Rattle.cif_weeks.proofs.Names.{Bool, IsAmongDates, IsExact, List, None, Option, RunsOn}
+use Rattle.cif_weeks.proofs.Names.{Some, [], arith, cases_lt, false, inl, inr, length}
 use Rattle.cif_weeks.proofs.Names.{refl, slice_get, subst, suc, sym, true, week_of, weekday_of, zero, ℕ, ⊎_elim, ◌%◌, ◌*◌, ◌+◌, ◌-◌, ◌<◌}
 use Rattle.cif_weeks.proofs.Names.{◌↔◌, ◌∙◌, ◌∷◌, ◌≡◌, ◌≤◌, ◌⊎◌}
 use Rattle.cif_weeks.proofs.WeekDays.{day_rises_week, masks_equal, week_later, weekday_later}

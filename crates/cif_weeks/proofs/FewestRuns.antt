@@ -1,5 +1,5 @@
 -- A run goes on into the days after it as long as can be, and of those that are left another is made.
-use Rattle.cif_weeks.proofs.Names.{AreFewestBefore, Bool, GoesOn, HasGoneOn, IsAmongDates, IsExact, IsLatestExact, IsLeft, IsLongestBefore}
+use Rattle.cif_weeks.proofs.Names.{AreFewestBefore, Bool, HasGoneOn, IsAmongDates, IsExact, IsLatestExact, IsLeft, IsLongestBefore}
 use Rattle.cif_weeks.proofs.Names.{IsPart, IsReach, IsRunDay, List, None, Option, Run, RunsOn, Some, [], arith, cases_lt, inl, inr, length}
 use Rattle.std.specs.Prelude.{IfNone, IfSome}
 use Rattle.cif_weeks.proofs.Names.{refl, subst, sym, weekday_of, ℕ, ⊎_elim, ◌+◌, ◌-◌, ◌<◌, ◌↔◌, ◌∙◌, ◌∷◌, ◌≡◌, ◌≤◌, ◌⊎◌}
@@ -312,7 +312,8 @@ module _ (on : ℕ → Type 0) (source : ℕ) where
       longer-latest limit left g upto none =
           record { exact = g.exact; source_is = g.source_is ∙ a.0.source_is; upto = upto; none_after = none }
 
-      before-it : {left : Option Run} → HasGoneOn on run next it left → IsLongestBefore on it before × AreFewestBefore on source it.first before
+      before-it : {left : Option Run} → HasGoneOn on run next it left →
+          IsLongestBefore on it before × AreFewestBefore on source it.first before
       before-it g = (
         longest-first run it before (sym g.first_is) a.1,
         subst (λ v. AreFewestBefore on source v before) (sym g.first_is) a.2,

@@ -1,7 +1,8 @@
 -- Forms 1 and 2 join weeks, and form 3 doesn't: what is known of runs and records, form by form.
 use Rattle.cif_weeks.proofs.Names.{AreBodyRuns, AreRunsBefore, Change, EndsBefore, EndsWeeksBefore, Form, IsAligned, IsApartFrom, IsByWeeks}
-use Rattle.cif_weeks.proofs.Names.{IsExact, IsGrown, IsMade, IsWeeksFrom, IsWithin, List, One, Permanent, Run, Three, Two, Window, arith, dates_of, inl}
-use Rattle.cif_weeks.proofs.Names.{inr, refl, week_of, ℕ, ◌+◌, ◌<◌, ◌≡◌, ◌≤◌, ◌⊎◌}
+use Rattle.cif_weeks.proofs.Names.{IsExact, IsGrown, IsMade, IsWeeksFrom, IsWithin, List, One}
+use Rattle.cif_weeks.proofs.Names.{Permanent, Run, Three, Two, Window, dates_of, inl}
+use Rattle.cif_weeks.proofs.Names.{inr, refl, ℕ, ◌<◌, ◌≡◌, ◌⊎◌}
 use Rattle.cif_weeks.proofs.{Exact.exact-first, Exact.exact-last, Exact.exact-over, Grown.grown_aligned, Grown.grown_exact}
 use Rattle.cif_weeks.proofs.{SameDays.breaks-over, SameDays.grown-over, WeekDays.day_rises_week}
 

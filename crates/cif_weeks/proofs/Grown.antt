@@ -1,6 +1,6 @@
 -- Records that have grown: on which days they apply, that they are aligned, and the change where one ends and another begins.
 use Rattle.cif_weeks.proofs.Names.{Bool, Breaks, Change, Fits, Form, IsAligned, IsExact, IsGrown, IsMask, IsWithin, List, One, Permanent}
-use Rattle.cif_weeks.proofs.Names.{RunsOn, Three, Two, Window, arith, cases_lt, inl, inr, refl, subst, sym, week_of, weekday_of, ℕ, ◌+◌}
+use Rattle.cif_weeks.proofs.Names.{RunsOn, Three, Two, Window, arith, cases_lt, inl, inr, refl, subst, week_of, weekday_of, ℕ, ◌+◌}
 use Rattle.cif_weeks.proofs.Names.{◌<◌, ◌≡◌, ◌≤◌}
 use Rattle.cif_weeks.{proofs.Masks.mask_runs, proofs.Separate.change-seven_days, specs.Applies.Applies}
 use Rattle.cif_weeks.proofs.WeekDays.{day_rises_week, week_of-next, week_of-rises}

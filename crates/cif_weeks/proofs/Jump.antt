@@ -1,5 +1,6 @@
 -- Weeks with one mask: a record grows by all of them at once.
-use Rattle.cif_weeks.proofs.Names.{Bool, Form, IsGrown, IsMask, IsWithin, List, MasksAgree, One, Permanent, RunsOn, Three, Two, Window, arith, inl}
+use Rattle.cif_weeks.proofs.Names.{Bool, Form, IsGrown, IsMask, IsWithin, List, MasksAgree}
+use Rattle.cif_weeks.proofs.Names.{One, Permanent, RunsOn, Three, Two, Window, arith, inl}
 use Rattle.cif_weeks.proofs.Names.{refl, subst, suc, sym, week_of, weekday_of, zero, ℕ, ⊎_elim, ◌*◌, ◌+◌, ◌≡◌, ◌≤◌}
 use Rattle.cif_weeks.proofs.{Growing.grown_more, Grown.fits_last, Grown.fits_shows}
 use Rattle.cif_weeks.proofs.WeekDays.{week_later, week_of-next, weekday_of-next}

@@ -26,7 +26,8 @@ pub use Rattle.cif_calendar.proofs.Names.{same_Some, slice_get-get_or, slice_get
 pub use Rattle.cif_calendar.proofs.RisingLists.{AllPairs-members, Contains-none, IsOneWay, less_one_way, not_less, same_members}
 pub use Rattle.cif_calendar.specs.{Applies.IsAmongDates, declared.key_calendar.Piece.Piece}
 pub use Rattle.cif_weeks.specs.Aligned.{IsAligned, IsAlignedOne, IsAlignedThree, IsAlignedTwo}
-pub use Rattle.cif_weeks.specs.{Applies.IsInRange, Applies.IsWeekOf, Exact.IsExact, HaveForm.HaveForm, Meets.Meets, WhatRuns.SayTheSame, WhatRuns.SayWhatRuns}
+pub use Rattle.cif_weeks.specs.{Applies.IsInRange, Applies.IsWeekOf, Exact.IsExact}
+pub use Rattle.cif_weeks.specs.{HaveForm.HaveForm, Meets.Meets, WhatRuns.SayTheSame, WhatRuns.SayWhatRuns}
 pub use Rattle.cif_weeks.specs.Canonical.{AreCanonical, Precedes, SayTheSameByKey, SayWhatRunsByKey, with_key}
 pub use Rattle.cif_weeks.specs.MemberRuns.{AreRunsOfMembers, HaveClash, IsMembersRun}
 pub use Rattle.cif_weeks.specs.Permanent.{Permanent, Permanents, permanent_entries, terms_of}

@@ -1,5 +1,6 @@
 -- The part of a run from one day to another, weekday by weekday.
-use Rattle.cif_weeks.proofs.Names.{Bool, IsPart, IsRunDay, List, Run, RunsOn, arith, cases_lt, inl, inr, length, nat_cmp, refl, rules, subst}
+use Rattle.cif_weeks.proofs.Names.{Bool, IsPart, IsRunDay, List, Run, RunsOn, arith}
+use Rattle.cif_weeks.proofs.Names.{cases_lt, inl, inr, length, nat_cmp, refl, rules, subst}
 use Rattle.cif_weeks.proofs.Names.{sym, weekday_of, ℕ, ⊎_elim, ◌+◌, ◌<◌, ◌↔◌, ◌∙◌, ◌≡◌, ◌≤◌, ◌⊎◌}
 use Rattle.std.specs.Ordering.{ord_max, ord_min}
 
@@ -70,7 +71,8 @@ module _ (run : Run) (first last : ℕ) where
         record { from = from; upto = upto; has = subst (RunsOn run.days) (sym day) has; before = omega arith }
 
     -- or there are some
-    pub part-more : (both : List Bool) (one other sooner later : ℕ) → RunsOn run.days weekday → AreFirstAndLast first last weekday one other →
+    pub part-more : (both : List Bool) (one other sooner later : ℕ) → RunsOn run.days weekday →
+        AreFirstAndLast first last weekday one other →
         length both ≡ 7 → ((w : ℕ) → RunsOn both w ↔ (RunsOn days w ⊎ (w ≡ weekday))) → sooner ≡ ord_min nat_cmp start one →
         later ≡ ord_max nat_cmp end other → IsPartBefore run first last (weekday + 1) both sooner later
     part-more both one other sooner later has (a, b, c, d, e, f, g) seven union is_sooner is_later =

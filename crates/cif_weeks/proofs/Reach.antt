@@ -1,6 +1,6 @@
 -- How far a run can go on into the days after it, weekday by weekday.
-use Rattle.cif_weeks.proofs.Names.{GoesOn, IsMissing, IsReach, IsTooLate, Run, RunsOn, Stops, arith, cases_lt, inl, inr, subst, weekday_of, ℕ}
-use Rattle.cif_weeks.proofs.Names.{⊎_elim, ◌+◌, ◌-◌, ◌<◌, ◌≡◌, ◌≤◌}
+use Rattle.cif_weeks.proofs.Names.{GoesOn, IsReach, Run, Stops, arith, cases_lt, subst, weekday_of, ℕ}
+use Rattle.cif_weeks.proofs.Names.{⊎_elim, ◌+◌, ◌<◌, ◌≡◌, ◌≤◌}
 
 -- it can't go on after `reach`, and on the weekdays before this one it can go on up to there
 pub record IsReachBefore (r s : Run) (weekday reach : ℕ) : Type 0 where

@@ -1,7 +1,8 @@
 -- Separate records in order: one ends in a week before that in which the other begins.
 use Rattle.cif_weeks.proofs.Names.{AreApart, AreSeparate, Change, ChangeBetween, EitherApplies, ExactlyOne, Form, IsApartFrom, IsByWeeks}
 use Rattle.cif_weeks.proofs.Names.{IsWeekOf}
-use Rattle.cif_weeks.proofs.Names.{IsWithin, One, Permanent, Three, Two, Window, arith, inl, inr, subst, sym, week_of, ℕ, ◌+◌, ◌<◌, ◌↔◌, ◌∙◌, ◌≡◌, ◌≢◌, ◌≤◌}
+use Rattle.cif_weeks.proofs.Names.{IsWithin, One, Permanent, Three, Two, Window, arith, inl, inr, subst}
+use Rattle.cif_weeks.proofs.Names.{sym, week_of, ℕ, ◌+◌, ◌<◌, ◌↔◌, ◌∙◌, ◌≡◌, ◌≢◌, ◌≤◌}
 use Rattle.cif_weeks.{proofs.AlignedDays.week_of-applies, proofs.Exact.exact-over, specs.Applies.Applies}
 use Rattle.cif_weeks.proofs.WeekDays.{same_day, week_of-next, week_of-rises, weekday_of-next}
 

@@ -148,7 +148,8 @@ module _ {B : Type 0} (xs : List (Terms B)) (window : Window) (spans : List Span
             change = λ next. any-change form by window shows on r s (grown_change window shows (have.inside h.source) form r s
                 (made-grown window shows r form by (made-of h r in_h of_h))
                 (subst (λ v. Breaks form window shows v) (sym of_h.dates) (ends.breaks (omega arith)))
-                (made-grown window shows s form by (subst (λ v. IsMade form window (Shows spans v) s) (sym sources) (made-of i s in_i of_i)))
+                (made-grown window shows s form by
+                (subst (λ v. IsMade form window (Shows spans v) s) (sym sources) (made-of i s in_i of_i)))
                 next);
           })
           (cases_lt (week_of h.last + 1) (week_of i.first))
@@ -190,7 +191,8 @@ module _ {B : Type 0} (xs : List (Terms B)) (window : Window) (spans : List Span
                   let last = (exact-run h in_h).last_on in
                   let has = (t.all h.last (omega arith) (omega arith) (shown-of h r of_h h.last last)).on_weekday in
                   let day : weekday_of n ≡ weekday_of h.last = omega arith in
-                  let b = t.only n (record { begun = omega arith; unfinished = omega arith; on_weekday = subst (RunsOn days) (sym day) has }) in
+                  let b = t.only n
+                  (record { begun = omega arith; unfinished = omega arith; on_weekday = subst (RunsOn days) (sym day) has }) in
                   let shows = from-shown n (omega arith) (omega arith) b in
                   let w = are.complete shows.it n shows.listed (have.has_body shows.it shows.listed r.body
                   (ap (λ v. body_at xs (Some v)) shows.is ∙ of_h.body))
@@ -200,7 +202,8 @@ module _ {B : Type 0} (xs : List (Terms B)) (window : Window) (spans : List Span
                   let begun = w.on.begun in
                   let less = later-run h k in_h w.listed sources n (omega arith) w.on.unfinished in
                   let (part, e) = exact-part r.first k.first s.first days t (omega arith) (omega arith)
-                  (shown-of h r of_h k.first (subst (λ v. Shows spans v k.first) (sym sources) (exact-run k w.listed).first_on)) in
+                  (shown-of h r of_h k.first (subst (λ v. Shows spans v k.first) (sym {a = h.source} {b = w.run.source} sources)
+                  (exact-run k w.listed).first_on)) in
                   not-soon k w.listed sources less (omega arith) part e;
             })
             (λ near.

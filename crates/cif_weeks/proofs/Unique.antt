@@ -1,5 +1,6 @@
 -- Two sets of records that have one form and say the same have the same records.
-use Rattle.cif_weeks.proofs.Names.{Contains, Form, HaveForm, List, Meets, One, Option, Permanent, Permanents, SayTheSame, Three, Two, Window}
+use Rattle.cif_weeks.proofs.Names.{Contains, Form, HaveForm, List, Meets, One}
+use Rattle.cif_weeks.proofs.Names.{Option, Permanent, Permanents, SayTheSame, Three, Two, Window}
 use Rattle.cif_weeks.proofs.Names.{arith, same_members, ℕ, ◌<◌, ◌≡◌}
 use Rattle.cif_weeks.proofs.{UniqueFewest.member-fewest, UniqueWeeks.member-weeks}
 pub use Rattle.cif_weeks.proofs.UniqueWeeks.{SayTheSame-from_runs, SayTheSame-sym}

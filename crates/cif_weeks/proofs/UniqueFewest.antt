@@ -1,7 +1,7 @@
 -- Two sets of records that have form 3 and say the same have the same records.
-use Rattle.cif_weeks.proofs.Names.{Bool, Form, HaveForm, IsExact, IsInRange, List, Permanent, Permanents, RunsOn, SayTheSame, Three, Window}
-use Rattle.cif_weeks.proofs.Names.{ap, arith, cases_eq, cases_lt, inl, inr, refl, subst, suc, sym, weekday_of, zero, ℕ, ⊎_elim, ◌+◌, ◌<◌}
-use Rattle.cif_weeks.proofs.Names.{◌∙◌, ◌≡◌, ◌≢◌, ◌≤◌, ◌⊎◌}
+use Rattle.cif_weeks.proofs.Names.{Bool, HaveForm, IsExact, List, Permanent, Permanents, SayTheSame, Three, Window}
+use Rattle.cif_weeks.proofs.Names.{ap, arith, cases_eq, cases_lt, refl, subst, suc, sym, zero, ℕ, ⊎_elim, ◌+◌, ◌<◌}
+use Rattle.cif_weeks.proofs.Names.{◌∙◌, ◌≡◌, ◌≤◌}
 use Rattle.cif_weeks.proofs.AlignedDays.{IsTight, tight, within-tight}
 use Rattle.cif_weeks.proofs.Exact.{exact-over, exact-part}
 use Rattle.cif_weeks.proofs.UniqueWeeks.{SayTheSame-sym, same_record}
@@ -119,7 +119,8 @@ module _ {B : Type 0} (window : Window) where
         ⊎_elim
         (λ sooner.
         let back = SayTheSame-sym window xs ys h in
-        let before = there ys xs y x back s.first s.body (record { it = s; listed = found.listed; applies = tight_s.on_first; body = refl }) in
+        let before = there ys xs y x back s.first s.body
+        (record { it = s; listed = found.listed; applies = tight_s.on_first; body = refl }) in
         let q = before.it in
         let q_begun = before.applies.begun in
         let in_ys = member-before limit q (omega arith) before.listed in

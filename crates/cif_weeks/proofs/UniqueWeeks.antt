@@ -2,7 +2,7 @@
 use Rattle.cif_weeks.proofs.Names.{Bool, Change, ChangeBetween, EitherApplies, Form, HaveForm, IsAligned, IsAlignedOne, IsAlignedTwo}
 use Rattle.cif_weeks.proofs.Names.{IsByWeeks, IsWeekOf, List, One, Option, Permanent, Permanents, RunsOn, SayTheSame, SayWhatRuns, Three}
 use Rattle.cif_weeks.proofs.Names.{Two, Window, ap, arith, cases_eq, cases_lt, inl, inr, refl, subst}
-use Rattle.cif_weeks.proofs.Names.{sym, week_of, ℕ, ◌+◌, ◌-◌, ◌<◌, ◌∙◌, ◌≡◌, ◌≢◌, ◌≤◌}
+use Rattle.cif_weeks.proofs.Names.{sym, week_of, ℕ, ◌+◌, ◌-◌, ◌∙◌, ◌≡◌, ◌≢◌, ◌≤◌}
 use Rattle.cif_weeks.proofs.AlignedDays.{DayOfWeek, IsTight, day_in_week, full_two, full_week, tight, week_of-applies, within-tight}
 use Rattle.cif_weeks.proofs.Separate.{weeks-separate}
 use Rattle.cif_weeks.{proofs.WeekDays.masks_equal, specs.Applies.Applies, specs.WhatRuns.HasBody}
@@ -117,7 +117,8 @@ module _ {B : Type 0} (form : Form) (by : IsByWeeks form) (window : Window) wher
     -- two records of a set with one body that have a week in common are the same
     one_in_week : (r s : Permanent B) (week : ℕ) → xs r → xs s → r.body ≡ s.body → IsWeekOf r week → IsWeekOf s week → r ≡ s
     one_in_week r s week in_r in_s same of_r of_s = elim (cases_eq r.first s.first) [
-      | inr apart ↦ absurd ((weeks-separate form by (x.separate r s in_r in_s (λ one. apart (ap (λ v. v.first) one)) same)).apart week of_r of_s)
+      | inr apart ↦ absurd ((weeks-separate form by
+          (x.separate r s in_r in_s (λ one. apart (ap (λ v. v.first) one)) same)).apart week of_r of_s)
       | inl first ↦ x.single r.first r s in_r in_s (tight_in r in_r).on_first
           (subst (λ v. Applies s v) (sym first) (tight_in s in_s).on_first)
     ]

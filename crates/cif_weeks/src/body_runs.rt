@@ -6,9 +6,11 @@ ghost use Rattle.std.specs.Prelude.{List, MatchBool, Some, length, map, ℕ};
 ghost use Rattle.std.specs.List.Sorted.{IsNonDecreasingBy};
 ghost use Rattle.cif_columns.specs.Day.{IsDay, week_of};
 ghost use Rattle.cif_calendar.specs.Source.{body_at};
-ghost use Rattle.cif_weeks.specs.Steps.BodyRuns.{AreAdded, AreBodyRuns, AreFewestBefore, AreGrownTo, AreNextWeeks, AreRunsOfBody, monday_of};
+ghost use Rattle.cif_weeks.specs.Steps.BodyRuns.{AreAdded, AreBodyRuns, AreFewestBefore};
+ghost use Rattle.cif_weeks.specs.Steps.BodyRuns.{AreGrownTo, AreNextWeeks, AreRunsOfBody, monday_of};
 ghost use Rattle.cif_weeks.specs.Steps.Spans.{AgreeOn, HaveOneMask, IsDisputed, IsSourceAmong, Leads, Shows};
-ghost use Rattle.cif_weeks.specs.{Steps.Growing.IsByWeeks, Window.IsWithin, Window.window_days, declared.form.Run.Run, declared.span.Span.Span};
+ghost use Rattle.cif_weeks.specs.{Steps.Growing.IsByWeeks, Window.IsWithin};
+ghost use Rattle.cif_weeks.specs.{Window.window_days, declared.form.Run.Run, declared.span.Span.Span};
 
 use crate::fewest::add_days;
 use crate::form::{Form, Joining, Run};

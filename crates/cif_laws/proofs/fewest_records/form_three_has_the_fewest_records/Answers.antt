@@ -19,6 +19,7 @@ pub returns-clause-schedules : goal.returns-clause-schedules
 returns-clause-schedules c x y bytes made same d =
     let says = same-trans y x made.made same made.same in
     record {
-      no_more = λ k b. no-more-of (slice_cmp nat_cmp) (header_window y.header) _ (schedules-in Three y made.made says made.canonical.canonical)
+      no_more = λ k b. no-more-of (slice_cmp nat_cmp) (header_window y.header) _
+          (schedules-in Three y made.made says made.canonical.canonical)
           k _ says.agree.schedules d b;
     }

@@ -15,4 +15,5 @@ returns-in-Three c =
     let a = c.args in
     IfOk-weaker c.add_weeks_days.result _ _ (λ _ e spans old next start.
     grown-days a.joining.now.form c.in-Three.is (window_days a.joining.now.window) (Shows spans a.source)
-    a.source a.week (a.weeks.last + 1) old a.runs.now.items c.add_weeks_days.new.runs.items (e spans old next start)) c.add_weeks_days.ensures
+    a.source a.week (a.weeks.last + 1) old a.runs.now.items c.add_weeks_days.new.runs.items (e spans old next start))
+    c.add_weeks_days.ensures

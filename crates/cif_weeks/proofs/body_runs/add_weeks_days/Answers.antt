@@ -1,5 +1,5 @@
 -- The weeks are the days of one run (`weeks-exact`), and none of the body's are before it or after it in them.
-use Rattle.cif_weeks.proofs.Names.{IfOk-weaker, One, Shows, arith, monday_of, refl, week_of, weekday_of, ◌*◌, ◌+◌, ◌-◌, ◌≡◌, ◌≤◌}
+use Rattle.cif_weeks.proofs.Names.{IfOk-weaker, One, Shows, arith, monday_of, refl, week_of, weekday_of, ◌+◌}
 use Rattle.cif_weeks.proofs.BodyRuns.{first-date, last-date, none-later, none-sooner, weeks-exact}
 use Rattle.cif_weeks.proofs.FewestRuns.{fewest-idle}
 use Rattle.cif_weeks.proofs.body_runs.add_weeks_days.Goals as goal

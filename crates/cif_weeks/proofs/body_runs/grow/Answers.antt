@@ -31,7 +31,8 @@ returns-then-agree c spans old next start (made, are, body) =
     let it : Run = record { first = run.first; last = c.day_of-last.result; days = c.union-days.result; source = run.source } in (
       it ∷ before,
       last-set old a.runs.now.items before place run it cut at,
-      grow-longer a.joining.now.form window (Shows spans a.source) a.source next.inside c.requires.by_weeks a.week a.weeks.last a.weeks
+      grow-longer a.joining.now.form window (Shows spans a.source) a.source next.inside c.requires.by_weeks
+          a.week a.weeks.last a.weeks
           next.one_mask
           c.in-Some.first_weekday c.in-Some-last.last_weekday c.in-Some.ensures.found c.in-Some-last.ensures.found c.day_of-last.result
           c.day_of-last.ensures before run c.union-days.result
@@ -42,13 +43,15 @@ returns-then-agree c spans old next start (made, are, body) =
 pub day_of-last-requires-clause-in_range : goal.day_of-last-requires-clause-in_range
 day_of-last-requires-clause-in_range c =
     let (spans, next) = c.requires.shown in
-    last-date c.args.joining.now.form _ (Shows spans c.args.source) c.args.source next.inside c.requires.by_weeks c.args.week c.args.weeks.last c.args.weeks
+    last-date c.args.joining.now.form _ (Shows spans c.args.source) c.args.source next.inside c.requires.by_weeks
+    c.args.week c.args.weeks.last c.args.weeks
     next.one_mask _ _ c.in-Some.ensures.found c.in-Some-last.ensures.found c.requires.in_range
 
 pub day_of-requires-clause-in_range : goal.day_of-requires-clause-in_range
 day_of-requires-clause-in_range c =
     let (spans, next) = c.requires.shown in
-    first-date c.args.joining.now.form _ (Shows spans c.args.source) c.args.source next.inside c.requires.by_weeks c.args.week c.args.weeks.last c.args.weeks
+    first-date c.args.joining.now.form _ (Shows spans c.args.source) c.args.source next.inside c.requires.by_weeks
+    c.args.week c.args.weeks.last c.args.weeks
     next.one_mask _ _ c.in-Some.ensures.found c.in-Some-last.ensures.found c.requires.in_range
 
 pub returns : goal.returns
@@ -64,7 +67,8 @@ returns c spans old next start (made, are, body) =
             let some : length old < length a.runs.now.items = omega (arith, w.if-start-len.true, c.len.ensures, a.runs.now.ok.0) in
             let long : (w.len-place.result - 1) + 1 ≡ length a.runs.now.items = omega (arith, w.len-place.ensures, a.runs.now.ok.0) in
             let (before, is, cut, at) = last-made old a.runs.now.items made _ run are some long w.index-run.ensures in
-            rw is (grow-next a.joining.now.form window (Shows spans a.source) a.source next.inside c.requires.by_weeks a.week a.weeks.last a.weeks
+            rw is (grow-next a.joining.now.form window (Shows spans a.source) a.source next.inside c.requires.by_weeks
+            a.week a.weeks.last a.weeks
             next.one_mask
             c.in-Some.first_weekday c.in-Some-last.last_weekday c.in-Some.ensures.found c.in-Some-last.ensures.found c.day_of-last.result
             c.day_of-last.ensures c.day_of.result c.day_of.ensures before run
@@ -76,7 +80,8 @@ returns c spans old next start (made, are, body) =
         | else-start-len w ↦
             let none : made ≡ [] = none-made old a.runs.now.items made are
             (omega (arith, w.if-start-len.false, c.len.ensures, a.runs.now.ok.0)) in
-            rw none (grow-first a.joining.now.form window (Shows spans a.source) a.source next.inside c.requires.by_weeks a.week a.weeks.last a.weeks
+            rw none (grow-first a.joining.now.form window (Shows spans a.source) a.source next.inside c.requires.by_weeks
+            a.week a.weeks.last a.weeks
             next.one_mask
             c.in-Some.first_weekday c.in-Some-last.last_weekday c.in-Some.ensures.found c.in-Some-last.ensures.found c.day_of-last.result
             c.day_of-last.ensures c.day_of.result c.day_of.ensures

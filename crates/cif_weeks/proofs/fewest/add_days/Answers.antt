@@ -1,5 +1,5 @@
 -- The last run goes on to the end (`few-longer`), or another begins (`few-more`); or it is the first (`few-first`).
-use Rattle.cif_weeks.proofs.Names.{AreFewestBefore, HasGoneOn, List, Run, Shows, Span, [], ap, arith, length, refl, reverse, subst, sym, ℕ}
+use Rattle.cif_weeks.proofs.Names.{AreFewestBefore, HasGoneOn, Shows, [], ap, arith, length, refl, reverse, subst}
 use Rattle.cif_weeks.proofs.Names.{◌++◌, ◌+◌, ◌-◌, ◌<◌, ◌∙◌, ◌∷◌, ◌≡◌}
 use Rattle.cif_weeks.proofs.BodyRuns.{last-made, last-set, made-more, none-made}
 use Rattle.cif_weeks.proofs.FewestRuns.{few-first, few-gap, few-longer, few-more}

@@ -1,5 +1,5 @@
 -- The run goes on into the part of `next` up to `reach` (`longer`), if there is one (`same`); what comes after it is left (`left-part`).
-use Rattle.cif_weeks.proofs.Names.{IsExact, List, Shows, Span, arith, refl, ℕ, ◌+◌, ◌<◌, ◌≡◌}
+use Rattle.cif_weeks.proofs.Names.{Shows, refl}
 use Rattle.cif_weeks.proofs.FewestRuns.{HasAll, left-all, left-part, longer, same}
 use Rattle.cif_weeks.proofs.fewest.go_on.Goals as goal
 use Rattle.cif_weeks.proofs.fewest.go_on.Goals.{in-None, in-None-next_up_to, in-Some, in-Some-next_up_to}
@@ -18,6 +18,7 @@ returns c spans source e f after gap =
     ] in
     elim c.match-next_up_to.branch [
       | in-Some-next_up_to w ↦ rw w.left-is (left-part on run next e f after gap reach is _ all w.in-Some-next_up_to.day
-          w.part-left.result w.in-Some-next_up_to.ensures.0 w.in-Some-next_up_to.ensures.1 w.part-left.ensures.some w.part-left.ensures.none)
+          w.part-left.result w.in-Some-next_up_to.ensures.0 w.in-Some-next_up_to.ensures.1 w.part-left.ensures.some
+          w.part-left.ensures.none)
       | in-None-next_up_to w ↦ rw w.left-is (left-all on run next e f after gap reach is _ all w.in-None-next_up_to.ensures)
     ]

@@ -1,6 +1,6 @@
 -- A weekday more, with days (`part-more`) or without any (`part-same`). At the end there is a part (`part-is`), or none (`part-none`).
-use Rattle.cif_weeks.proofs.Names.{RunsOn, iff_false, inl, inr, refl, subst, weekday_of, ℕ, ⊎_elim, ◌≡◌, ◌≤◌}
-use Rattle.cif_weeks.proofs.Parts.{part-is, part-more, part-none, part-same, part-start}
+use Rattle.cif_weeks.proofs.Names.{RunsOn, iff_false, inl, inr, refl, subst, ⊎_elim}
+use Rattle.cif_weeks.proofs.Parts.{part-is, part-more, part-same, part-start}
 use Rattle.cif_weeks.proofs.fewest.part.Goals as goal
 use Rattle.cif_weeks.proofs.fewest.part.Goals.{else-has, then-has+in-Some, then-has+in_default}
 
