@@ -6,7 +6,6 @@ pub mod DifferingFields
 mod ExplainedMarks
 mod ExplainedTexts
 mod Explaining
-mod GatheredRows
 pub mod Moments
 mod OneDifference
 mod PairedBodies
@@ -22,3 +21,4 @@ mod SameTables
 pub mod TableRows
 pub mod WeekLines
 pub mod Names
+mod RowNames

@@ -62,6 +62,7 @@ pub use Rattle.cif_canon.specs.{declared.rows.Shape.TheVariants.Trimmed, declare
 pub use Rattle.cif_canon.specs.Pairs.{association_lines, listed_as, parts_of, schedule_lines, tiploc_lines}
 pub use Rattle.cif_views.specs.Calls.{call_text, calls_text, origin_fields, terminus_fields}
 pub use Rattle.cif_views.specs.{Clashes.clash_line, Clashes.clashes_text, DifferenceTable.tiploc_row, DifferenceTable.without_extra}
+pub use Rattle.cif_views.specs.DifferenceTable.{difference_rows, difference_text}
 pub use Rattle.cif_views.specs.{Explanation.terms_fields, Steps.WeekCalendar.state_in, declared.columns.FieldPlace.FieldPlace}
 pub use Rattle.cif_views.specs.{declared.columns.JourneyKind.JourneyKind, declared.marks.Mark.Mark}
 pub use Rattle.cif_views.specs.{declared.public_calls.CallTimes.CallTimes, declared.public_calls.Journey.Journey}
@@ -73,7 +74,7 @@ pub use Rattle.cif_views.specs.DifferenceTable.{differing_row, differing_rows, i
 pub use Rattle.cif_views.specs.DifferenceTable.{place_columns, place_rows, schedule_differences, schedule_head, single_row, tiploc_head}
 pub use Rattle.cif_views.specs.Explanation.{AreExplained, Explained, HasWinningMark, IsAssociationOf, IsExplanation, IsMarked, IsTrain}
 pub use Rattle.cif_views.specs.Explanation.{SomeApplies, explanation_heading, mark_columns, said_of_association, said_of_train}
-pub use Rattle.cif_views.specs.Listing.{call_names_if, date_field, if_table, journey_names, lines_of_row, no_call, with_calls}
+pub use Rattle.cif_views.specs.Listing.{call_names_if, date_field, if_table, journey_names, lines_of_row, names_line, no_call, with_calls}
 pub use Rattle.cif_views.specs.Moments.{IsBy, IsInDayFrom, in_day_from, midnight, time_text, two_digits_or_more}
 pub use Rattle.cif_views.specs.PublicCalls.{AreMoments, ArePublicCalls, AreShown, IsBehind, PublicCall, TimedCall, advertised, is_public}
 pub use Rattle.cif_views.specs.PublicCalls.{is_timed, left_at, public_fields, reached_at, riders_of, said_by, times_in, working}
@@ -81,21 +82,22 @@ pub use Rattle.cif_views.specs.Steps.PublicCalls.{at_first, behind_shown, behind
 pub use Rattle.cif_views.specs.Steps.PublicCalls.{public_moment, raised, reached_moment, stay, stay_at, step_at}
 pub use Rattle.cif_views.specs.RowsOfDifferences.{AreRowsOfFields, HasRow, HaveRows, IsRowOfField}
 pub use Rattle.cif_views.specs.Steps.Columns.{Column, are_within, association_columns, basic_columns, call_columns, change_columns, column}
-pub use Rattle.cif_views.specs.Steps.Columns.{extra_columns, field_in, fields_in, is_span, is_within, name_fields, named, over, room_for}
-pub use Rattle.cif_views.specs.Steps.Columns.{room_for_names, row_behind, span_in}
-pub use Rattle.cif_views.specs.Steps.DifferenceRows.{are_texts, call_counts, count_of_calls, is_text, is_text_place, journeys_behind}
-pub use Rattle.cif_views.specs.Steps.DifferenceRows.{own_columns, place_behind, places_behind, same_places}
+pub use Rattle.cif_views.specs.Steps.Columns.{column_names, columns_of, extra_columns, field_in, fields_in, is_span, is_within, over}
+pub use Rattle.cif_views.specs.Steps.Columns.{room_for, room_of, span_in, value_in, values_in}
+pub use Rattle.cif_views.specs.Steps.DifferenceHeads.{IsShortPlace, change_on, head_of, head_values, place_names, place_values, start_values}
+pub use Rattle.cif_views.specs.Steps.DifferenceRows.{are_texts, count_of_calls, field_rows, is_text, is_text_place, own_columns}
+pub use Rattle.cif_views.specs.Steps.DifferenceRows.{row_of_counts, rows_of_journeys, rows_of_place, rows_of_places, rows_text, same_places}
 pub use Rattle.cif_views.specs.Steps.Explanation.{AreMarked, AreMarkedOn, ArePlacedBelow, ArePlacedInOrder, IsFirstOfKey, IsLeast, IsLevel}
 pub use Rattle.cif_views.specs.Steps.Explanation.{IsLike, IsMarkAmong, IsMarkAt, IsMarkOf, IsPlaced, IsRisingBy, Placed, marked_as}
 pub use Rattle.cif_views.specs.Steps.Explanation.{placed_at, placed_cmp, placed_of, unmarked}
-pub use Rattle.cif_views.specs.Steps.PublicRows.{IsJourneyBy, behind_schedule, row_of_step}
+pub use Rattle.cif_views.specs.Steps.PublicRows.{IsJourneyBy, public_values, row_of_step}
 pub use Rattle.cif_views.specs.Steps.Rows.{first_field, heading_text, row_and_calls, row_lines, texts}
 pub use Rattle.cif_views.specs.Steps.TableRows.{has_row, journey_columns, journey_rows, row_of_kind, rows_of}
-pub use Rattle.cif_views.specs.TableText.{schedule_rows, table_heading, table_rows}
+pub use Rattle.cif_views.specs.TableText.{schedule_rows, table_names, table_rows}
 pub use Rattle.cif_views.specs.Tables.{Numbered, NumberedSchedule, TableFields, call_fields, category_fields, change_fields, detail_fields}
 pub use Rattle.cif_views.specs.Tables.{extra_fields, extra_identity, extra_in, header_fields, is_call, is_change, is_extra, journey_kind}
-pub use Rattle.cif_views.specs.Tables.{kind_of_line, names, names_line, number, numbered_from, numbered_schedule, own_call_fields}
-pub use Rattle.cif_views.specs.Tables.{own_change_fields, row_fields, row_line, schedule_fields, tiploc_fields, type_fields, yymmdd_from}
+pub use Rattle.cif_views.specs.Tables.{kind_of_line, names, numbered_from, numbered_schedule, own_call_fields}
+pub use Rattle.cif_views.specs.Tables.{own_change_fields, row_of, row_values, schedule_fields, tiploc_fields, type_fields, yymmdd_from}
 pub use Rattle.cif_views.specs.WeekCalendar.{IsRunningLetter, IsShown, IsWeekCalendar, SaysWhatRuns, calendar_text, cell, character}
 pub use Rattle.cif_views.specs.WeekCalendar.{monday_columns, space, week_line, weeks_between}
 pub use Rattle.cif_views.specs.declared.columns.JourneyKind.TheVariants.{Change, Other, Stop}

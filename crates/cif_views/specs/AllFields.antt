@@ -1,38 +1,26 @@
 -- Each row of a table has a field for each of its names.
-use Rattle.std.specs.Prelude.{◌≡◌, ℕ, Bool, true, false, List, [], ◌∷◌, ◌++◌, length, replicate, take}
+use Rattle.std.specs.Prelude.{◌≡◌, ℕ, Bool, true, false, List, [], ◌∷◌, ◌++◌, length, take}
 use Rattle.std.specs.List.{flat_map}
 use Rattle.cif_columns.specs.Field.{columns}
 use Rattle.cif_extract.specs.Body.{BodyLines}
 use Rattle.cif_records.specs.declared.{association.AssocBody.AssocBody, association.AssocKey.AssocKey, origin.Origin.Origin, stop.Stop.Stop}
 use Rattle.cif_records.specs.declared.{terminus.Terminus.Terminus}
 use Rattle.cif_weeks.specs.Permanent.{Permanent}
-use Rattle.cif_canon.specs.Fields.{Field, nothing, with_first}
+use Rattle.cif_canon.specs.Fields.{Field, with_first}
 use Rattle.cif_canon.specs.{Rows.schedule_row, Rows.train_row, declared.rows.Format.TheVariants.Tsv}
 use Rattle.cif_views.specs.Calls.{call_names, origin_fields, stop_fields, terminus_fields}
-use Rattle.cif_views.specs.DifferenceTable.{association_head, difference_names, schedule_head, text, tiploc_head}
+use Rattle.cif_rows.specs.Row.{Value}
+use Rattle.cif_views.specs.DifferenceTable.{association_head, difference_names, differing_row, schedule_head, single_row, tiploc_head}
 use Rattle.cif_views.specs.Explanation.{Explained, explained_association_fields, explained_train_fields, explanation_names}
 use Rattle.cif_views.specs.Listing.{association_fields_of, date_field, day_names, train_names, uid_field}
-use Rattle.cif_views.specs.{PublicCalls.public_fields, Tables.schedule_fields, Tables.tiploc_fields, declared.listing.Listing.Listing}
-use Rattle.cif_views.specs.Tables.{TableFields, association_fields, basic_fields, call_fields, change_fields, detail_fields, extra_fields}
-use Rattle.cif_views.specs.Tables.{header_fields, kind_of_line, location_and_suffix, names, own_call_fields, own_change_fields, row_fields}
+use Rattle.cif_views.specs.{Tables.tiploc_fields, declared.listing.Listing.Listing}
+use Rattle.cif_views.specs.Tables.{TableFields, association_fields, basic_fields, detail_fields, extra_fields}
+use Rattle.cif_views.specs.Tables.{header_fields, kind_of_line, location_and_suffix, own_call_fields, own_change_fields}
 use Rattle.cif_views.specs.declared.columns.JourneyKind.TheVariants as kind
 
 -- as many fields as names
 abbrev pub HasAll : List (List ℕ) → List Field → Type 0
 HasAll names row = length row ≡ length names
-
--- the rows of a table of a whole extract
-abbrev pub HaveAll : {Row : Type 0} → TableFields Row → Type 0
-HaveAll {Row} fields = (row : Row) → HasAll (names fields) (row_fields fields row)
-
-pub record TablesHaveAll : Type 0 where
-  pub header : HaveAll header_fields
-  pub tiplocs : HaveAll tiploc_fields
-  pub associations : HaveAll association_fields
-  pub schedules : HaveAll schedule_fields
-  pub calls : HaveAll call_fields
-  pub changes : HaveAll change_fields
-  pub public : HaveAll public_fields
 
 -- a table of a day or of a train, with or without calls
 abbrev pub table_with : Bool → Listing
@@ -65,17 +53,20 @@ pub record ExplainedRowsHaveAll : Type 0 where
   pub train : (d : ℕ) (e : Explained (List ℕ) BodyLines) → HasAll explanation_names (explained_train_fields Tsv d e)
 
 -- The rows of differences: of what only one side has, and of a field of a pair. Those of a location, of an association and of a schedule
--- begin with as many fields.
-abbrev pub HaveAllBehind : List Field → Type 0
-HaveAllBehind head =
-    HasAll difference_names (head ++ replicate 6 nothing)
-    × ((call identity location : Field) (name : List ℕ) (left right : Field) →
-    HasAll difference_names ((head ++ (call ∷ identity ∷ location ∷ [])) ++ (text name ∷ left ∷ right ∷ [])))
+-- begin with as many values.
+abbrev pub HasAllValues : List Value → Type 0
+HasAllValues row = length row ≡ length difference_names
+
+abbrev pub HaveAllAfter : List Value → Type 0
+HaveAllAfter head =
+    HasAllValues (single_row head)
+    × ((call identity location : Value) (name : List ℕ) (left right : Value) →
+    HasAllValues (differing_row (head ++ (call ∷ identity ∷ location ∷ [])) name left right))
 
 pub record DifferenceRowsHaveAll : Type 0 where
-  pub tiploc : (change : Field) (line : List ℕ) → HaveAllBehind (tiploc_head change line)
-  pub association : (change : Field) (line : List ℕ) → HaveAllBehind (association_head change line)
-  pub schedule : (change : Field) (line : List ℕ) → HaveAllBehind (schedule_head change line)
+  pub tiploc : (change : Value) (line : List ℕ) → HaveAllAfter (tiploc_head change line)
+  pub association : (change : Value) (line : List ℕ) → HaveAllAfter (association_head change line)
+  pub schedule : (change : Value) (line : List ℕ) → HaveAllAfter (schedule_head change line)
 
 -- The columns of a row's fields, one behind another, are those of the line from one to another: none is left out, and none stands twice.
 abbrev pub AreColumns : TableFields (List ℕ) → ℕ → ℕ → List ℕ → Type 0

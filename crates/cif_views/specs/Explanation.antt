@@ -12,8 +12,8 @@ use Rattle.cif_weeks.specs.Window.{IsWithin}
 use Rattle.cif_canon.specs.{Asked.header_window, declared.rows.Format.Format}
 use Rattle.cif_canon.specs.Fields.{Field, left_out, line_of, with_first}
 use Rattle.cif_canon.specs.Rows.{association_fields, no_association, no_train, train_fields}
-use Rattle.cif_views.specs.Listing.{association_names, date_field, if_table, journey_names}
-use Rattle.cif_views.specs.{Tables.names_line, declared.marks.Mark.Mark}
+use Rattle.cif_views.specs.Listing.{association_names, date_field, if_table, journey_names, names_line}
+use Rattle.cif_views.specs.declared.marks.Mark.{Mark}
 use Rattle.cif_canon.specs.declared.rows.Shape.TheVariants.{Date, Trimmed, Whole}
 use Rattle.cif_views.specs.declared.marks.Mark.TheVariants as mark
 

@@ -9,7 +9,12 @@ use Rattle.cif_canon.specs.Rows.{association_fields, no_train, schedule_row, tra
 use Rattle.cif_canon.specs.Views.{DayTexts, IsDayListed, IsTrainListed, TrainTexts}
 use Rattle.cif_canon.specs.declared.{rows.Format.Format, rows.Format.TheVariants.Text, rows.Format.TheVariants.Tsv}
 use Rattle.cif_canon.specs.declared.rows.Shape.TheVariants.{Date, Trimmed, Whole}
-use Rattle.cif_views.specs.{Calls.call_names, Calls.calls_text, Tables.names_line, declared.listing.Listing.Listing}
+use Rattle.std.specs.List.{join_with_byte}
+use Rattle.cif_views.specs.{Calls.call_names, Calls.calls_text, declared.listing.Listing.Listing}
+
+-- the line of some names
+abbrev pub names_line : List (List ℕ) → List ℕ
+names_line names = join_with_byte 9 names ++ codes "\n"
 
 -- In a table with calls an association has the twelve fields of a call too, empty.
 abbrev pub no_call : Listing → List Field

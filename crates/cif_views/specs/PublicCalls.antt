@@ -4,9 +4,10 @@ use Rattle.std.specs.Prelude.{◌+◌, ◌-◌, ◌||◌, ◌∷◌, ◌≡◌}
 use Rattle.std.specs.{List.filter, Option.option_and_then, Option.option_or}
 use Rattle.cif_columns.specs.{Activities.codes_in, Activities.has_code, Field.columns, PublicTime.public_seconds, PublicTime.public_time_in}
 use Rattle.cif_columns.specs.{WorkTime.work_seconds, WorkTime.work_time_in}
-use Rattle.cif_canon.specs.{Fields.Field, Lines.ScheduleLines, declared.rows.Shape.TheVariants.Whole}
+use Rattle.cif_canon.specs.Lines.{ScheduleLines}
+use Rattle.cif_rows.specs.{Row.Value, Row.number, declared.shape.Shape.TheVariants.Number, declared.shape.Shape.TheVariants.Whole}
 use Rattle.cif_views.specs.Moments.{IsNearest, IsNext, midnight, time_text}
-use Rattle.cif_views.specs.Tables.{Numbered, TableFields, calls_of, kind_of_line, number, text_at}
+use Rattle.cif_views.specs.Tables.{Numbered, TableFields, calls_of, kind_of_line, text_at}
 use Rattle.cif_views.specs.declared.{columns.JourneyKind.JourneyKind, public_calls.CallTimes.CallTimes, public_calls.Riders.Riders}
 use Rattle.cif_views.specs.declared.columns.JourneyKind.TheVariants.{Origin, Stop, Terminus}
 
@@ -159,7 +160,7 @@ abbrev pub pick_up : Riders → CallTimes → List ℕ
 pick_up r t = answer_of (r.pick_up || (not r.set_down && is_some t.public_departure)) r.on_request
 
 -- the columns of its platform
-abbrev pub platform_in : JourneyKind → List ℕ → Field
+abbrev pub platform_in : JourneyKind → List ℕ → Value
 platform_in Stop line = text_at 34 36 line
 platform_in kind line = text_at 20 22 line
 
@@ -171,6 +172,6 @@ public_fields =
     ∷ (codes "platform", λ p. platform_in (kind_of_line p.call.line) p.call.line)
     ∷ (codes "arrival", λ p. (Whole, time_text (p.arrival - midnight)))
     ∷ (codes "departure", λ p. (Whole, time_text (p.departure - midnight)))
-    ∷ (codes "set_down", λ p. (Whole, set_down (riders_of p.call.line) (times_of p.call.line)))
-    ∷ (codes "pick_up", λ p. (Whole, pick_up (riders_of p.call.line) (times_of p.call.line)))
+    ∷ (codes "set_down", λ p. (Number, set_down (riders_of p.call.line) (times_of p.call.line)))
+    ∷ (codes "pick_up", λ p. (Number, pick_up (riders_of p.call.line) (times_of p.call.line)))
     ∷ []

@@ -3,8 +3,8 @@
 pub mod Clashes
 pub mod Explanation
 pub mod Columns
+pub mod DifferenceHeads
 pub mod DifferenceRows
-pub mod GatheredRows
 pub mod PublicCalls
 pub mod PublicRows
 pub mod Rows

@@ -1,60 +1,51 @@
--- Tables of a whole canonical extract: a line of names, and then a line for each row.
-use Rattle.std.specs.Prelude.{Bool, List, Option, Some, [], codes, cond, decimal, false, map, replicate, slice_index_or, true, ℕ, ◌++◌, ◌+◌}
-use Rattle.std.specs.{List.filter, List.join_with_byte, Prelude.◌∷◌}
+-- Tables of a whole canonical extract: the names of their fields, and what stands in a row.
+use Rattle.std.specs.Prelude.{Bool, List, Option, Some, [], codes, cond, false, map, replicate, slice_index_or, true, ℕ, ◌++◌, ◌+◌}
+use Rattle.std.specs.{List.filter, Prelude.◌∷◌}
 use Rattle.cif_columns.specs.Field.{columns, columns_from}
 use Rattle.cif_records.specs.{Kind.kind_in, declared.record.Kind.Kind}
 use Rattle.cif_records.specs.declared.record.Kind.TheVariants.{Bx, Cr, Li, Lo, Lt}
-use Rattle.cif_canon.specs.{Fields.Field, Fields.line_of, Fields.nothing, Lines.ScheduleLines, declared.rows.Format.TheVariants.Tsv}
-use Rattle.cif_canon.specs.declared.rows.Shape.TheVariants.{Date, Trimmed, Whole}
+use Rattle.cif_canon.specs.Lines.{ScheduleLines}
+use Rattle.cif_rows.specs.Row.{Field, Value, named, nothing, number}
+use Rattle.cif_rows.specs.declared.shape.Shape.TheVariants.{Date, Trimmed, Whole}
 use Rattle.cif_views.specs.declared.columns.JourneyKind.{JourneyKind}
 use Rattle.cif_views.specs.declared.columns.JourneyKind.TheVariants.{Change, Origin, Other, Stop, Terminus}
 
 -- the columns of a table: each has a name, and what stands there in a row
 abbrev pub TableFields : Type 0 → Type 0
-TableFields Row = List (List ℕ × (Row → Field))
+TableFields Row = List (List ℕ × (Row → Value))
 
--- its names, and the fields of a row: as many
+-- its names, and what stands in a row: as many values
 abbrev pub names : {Row : Type 0} → TableFields Row → List (List ℕ)
 names fields = map (λ f. f.0) fields
 
-abbrev pub row_fields : {Row : Type 0} → TableFields Row → Row → List Field
-row_fields fields row = map (λ f. f.1 row) fields
+abbrev pub row_values : {Row : Type 0} → TableFields Row → Row → List Value
+row_values fields row = map (λ f. f.1 row) fields
+
+-- a row: each value has its name
+abbrev pub row_of : {Row : Type 0} → TableFields Row → Row → List Field
+row_of fields row = map (λ f. named f.0 (f.1 row)) fields
 
 -- the fields of a part of a row are fields of the row
 abbrev pub of_part : {Row Part : Type 0} → (Row → Part) → TableFields Part → TableFields Row
 of_part part fields = map (λ f. (f.0, λ row. f.1 (part row))) fields
 
--- the line of some names, that of all names of a table, and that of a row
-abbrev pub names_line : List (List ℕ) → List ℕ
-names_line names = join_with_byte 9 names ++ codes "\n"
-
-abbrev pub heading : {Row : Type 0} → TableFields Row → List ℕ
-heading fields = names_line (names fields)
-
-abbrev pub row_line : {Row : Type 0} → TableFields Row → Row → List ℕ
-row_line fields row = line_of Tsv (row_fields fields row)
-
 -- What stands in columns of a line, counted from 1: without the spaces at their end; as they stand; as a date YYMMDD, and as one that the
 -- header writes as DDMMYY.
-abbrev pub text_at : ℕ → ℕ → List ℕ → Field
+abbrev pub text_at : ℕ → ℕ → List ℕ → Value
 text_at from to line = (Trimmed, columns from to line)
 
-abbrev pub whole_at : ℕ → ℕ → List ℕ → Field
+abbrev pub whole_at : ℕ → ℕ → List ℕ → Value
 whole_at from to line = (Whole, columns from to line)
 
-abbrev pub date_at : ℕ → ℕ → List ℕ → Field
+abbrev pub date_at : ℕ → ℕ → List ℕ → Value
 date_at from to line = (Date, columns from to line)
 
 abbrev pub yymmdd_from : List ℕ → List ℕ
 yymmdd_from ddmmyy =
     let digit : ℕ → ℕ = λ n. slice_index_or ddmmyy n 0 in digit 4 ∷ digit 5 ∷ digit 2 ∷ digit 3 ∷ digit 0 ∷ digit 1 ∷ []
 
-abbrev pub header_date_at : ℕ → List ℕ → Field
+abbrev pub header_date_at : ℕ → List ℕ → Value
 header_date_at from line = (Date, yymmdd_from (columns_from from 6 line))
-
--- a number
-abbrev pub number : ℕ → Field
-number n = (Whole, decimal n)
 
 -- the header
 abbrev pub header_fields : TableFields (List ℕ)
@@ -215,17 +206,17 @@ abbrev pub changes_of : ℕ × ScheduleLines → List Numbered
 changes_of s = filter (λ p. is_change (kind_of_line p.line)) (numbered_from s.0 1 s.1.further)
 
 -- a field of a call, which may stand elsewhere in LO, LI and LT
-abbrev pub by_kind : Field → Field → Field → JourneyKind → Field
+abbrev pub by_kind : Value → Value → Value → JourneyKind → Value
 by_kind of_origin of_stop of_terminus Origin = of_origin
 by_kind of_origin of_stop of_terminus Stop = of_stop
 by_kind of_origin of_stop of_terminus Terminus = of_terminus
 by_kind of_origin of_stop of_terminus Change = nothing
 by_kind of_origin of_stop of_terminus Other = nothing
 
-abbrev pub of_call : (List ℕ → Field) → (List ℕ → Field) → (List ℕ → Field) → List ℕ → Field
+abbrev pub of_call : (List ℕ → Value) → (List ℕ → Value) → (List ℕ → Value) → List ℕ → Value
 of_call of_origin of_stop of_terminus line = by_kind (of_origin line) (of_stop line) (of_terminus line) (kind_of_line line)
 
-abbrev pub no_field : List ℕ → Field
+abbrev pub no_field : List ℕ → Value
 no_field line = nothing
 
 -- the fields of a call behind its suffix, and those of a change

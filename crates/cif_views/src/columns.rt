@@ -26,9 +26,6 @@ pub(crate) type ColumnRange = (usize, usize);
 /// No columns.
 const NO_COLUMNS: ColumnRange = (1, 0);
 
-/// An empty field.
-const NOTHING: Column = ("", Nowhere);
-
 /// The location of TI.
 const LOCATION: Column = ("tiploc", Text(3, 9));
 
@@ -219,15 +216,36 @@ pub(crate) const CHANGE: [Column; 21] = [
     ("reserved_a", Text(68, 75)),
 ];
 
+/// Fields that a record doesn't have, in the table of differences.
+const NO_TIPLOC: Column = ("tiploc", Nowhere);
+
+const NO_UID: Column = ("uid", Nowhere);
+
+const NO_ASSOCIATED_UID: Column = ("associated_uid", Nowhere);
+
+const NO_LOCATION: Column = ("location", Nowhere);
+
+const NO_BASE_SUFFIX: Column = ("base_suffix", Nowhere);
+
+const NO_ASSOCIATED_SUFFIX: Column = ("associated_suffix", Nowhere);
+
 /// The fields up to the days run of TI, in the table of differences.
 pub(crate) const TIPLOC_HEAD: [Column; 9] = [
-    LOCATION, NOTHING, NOTHING, NOTHING, NOTHING, NOTHING, NOTHING, NOTHING, NOTHING,
+    LOCATION,
+    NO_UID,
+    NO_ASSOCIATED_UID,
+    NO_LOCATION,
+    NO_BASE_SUFFIX,
+    NO_ASSOCIATED_SUFFIX,
+    ("first_date", Nowhere),
+    ("last_date", Nowhere),
+    ("days_run", Nowhere),
 ];
 
 /// The fields up to the days run of AA, in the table of differences.
 pub(crate) const ASSOCIATION_HEAD: [Column; 9] = [
-    NOTHING,
-    BASE_UID,
+    NO_TIPLOC,
+    ("uid", Whole(4, 9)),
     ASSOCIATED_UID,
     MEETS_AT,
     BASE_SUFFIX,
@@ -239,7 +257,15 @@ pub(crate) const ASSOCIATION_HEAD: [Column; 9] = [
 
 /// The fields up to the days run of BS, in the table of differences.
 pub(crate) const BASIC_HEAD: [Column; 9] = [
-    NOTHING, UID, NOTHING, NOTHING, NOTHING, NOTHING, RUNS_FROM, RUNS_TO, RUNS_ON,
+    NO_TIPLOC,
+    UID,
+    NO_ASSOCIATED_UID,
+    NO_LOCATION,
+    NO_BASE_SUFFIX,
+    NO_ASSOCIATED_SUFFIX,
+    RUNS_FROM,
+    RUNS_TO,
+    RUNS_ON,
 ];
 
 /// The columns of the field in a line of this kind.

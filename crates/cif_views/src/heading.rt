@@ -1,7 +1,7 @@
 //! The first line of a table: the names of its fields, with a tab between them.
 ghost use Rattle.std.specs.Prelude.{◌≡◌, ◌∷◌};
 ghost use Rattle.cif_canon.specs.Appended.{IsAppended};
-ghost use Rattle.cif_views.specs.{Listing.call_names_if, Steps.Rows.heading_text, Steps.Rows.texts, Tables.names_line};
+ghost use Rattle.cif_views.specs.{Listing.call_names_if, Listing.names_line, Steps.Rows.heading_text, Steps.Rows.texts};
 
 use crate::listing::Listing;
 use cif_canon::Format;

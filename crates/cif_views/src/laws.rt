@@ -1,16 +1,17 @@
 //! Laws: what the marks of an explanation and the letters of a calendar say, and what tables say.
-ghost use Rattle.std.specs.Prelude.{◌≡◌, ◌↔◌, ◌<◌, ◌≤◌, ◌^◌, ℕ, Contains, List, length};
+ghost use Rattle.std.specs.Prelude.{◌≡◌, ◌≢◌, ◌↔◌, ◌<◌, ◌≤◌, ◌^◌, ℕ, Contains, List, [], length};
 ghost use Rattle.cif_calendar.specs.{Clash.IsClear, Keys.keyed, Keys.of_key, Runs.Runs, Terms.Terms};
 ghost use Rattle.cif_canon.specs.{Accepted.IsAccepted, Canon.CanonParts, Canon.IsCanonOf, Differences.AreDifferences, Differences.AreNone};
-ghost use Rattle.cif_canon.specs.{Differences.DifferencesParts, Fields.Field, Lines.ScheduleLines, Meaning.SameMeaning};
+ghost use Rattle.cif_canon.specs.{Differences.DifferencesParts, Lines.ScheduleLines, Meaning.SameMeaning};
+ghost use Rattle.cif_rows.specs.{Row.Value, declared.format.Format.Format, declared.format.Format.TheVariants.Text};
 ghost use Rattle.cif_canon.specs.declared.asked.Asked.{Asked};
 ghost use Rattle.cif_extract.specs.ExtractParts.{ExtractParts};
 ghost use Rattle.cif_weeks.specs.declared.form.Form.{Form};
 ghost use Rattle.cif_views.specs.AllFields.{CallsHaveAll, DayRowsHaveAll, DifferenceRowsHaveAll};
-ghost use Rattle.cif_views.specs.AllFields.{ExplainedRowsHaveAll, TablesHaveAll, TablesHaveColumns, TrainRowsHaveAll};
-ghost use Rattle.cif_views.specs.{DifferenceTable.difference_names, DifferenceTable.difference_table, PublicCalls.ArePublicCalls};
+ghost use Rattle.cif_views.specs.AllFields.{ExplainedRowsHaveAll, TablesHaveColumns, TrainRowsHaveAll};
+ghost use Rattle.cif_views.specs.{DifferenceTable.difference_rows, PublicCalls.ArePublicCalls};
 ghost use Rattle.cif_views.specs.{RowsOfDifferences.AreRowsOfFields, RowsOfDifferences.HaveRows, SameTables.HaveSameTables};
-ghost use Rattle.cif_views.specs.{Steps.PublicCalls.public_calls, Tables.TableFields, Tables.names_line, WeekCalendar.IsWeekCalendar};
+ghost use Rattle.cif_views.specs.{Steps.PublicCalls.public_calls, Tables.TableFields, WeekCalendar.IsWeekCalendar};
 ghost use Rattle.cif_views.specs.{WeekCalendar.SaysWhatRuns, declared.marks.Mark.TheVariants.Wins};
 ghost use Rattle.cif_views.specs.Explanation.{AreExplained, Explained, HasWinningMark, SomeApplies};
 
@@ -34,7 +35,6 @@ pub fn marks_say_what_runs<E: ExplainedEntry>()
 
 /// Each row of a table has a field for each name in its first line.
 pub fn rows_have_all_fields()
-    ensures tables { TablesHaveAll }
     ensures calls { CallsHaveAll }
     ensures day { DayRowsHaveAll }
     ensures train { TrainRowsHaveAll }
@@ -48,13 +48,13 @@ pub fn rows_have_all_fields()
 /// have the same tables exactly if they have the same text, each of fewer than 2^64 bytes. In longer ones
 /// the numbers of schedules and calls may not fit 64 bits.
 pub fn equal_tables_equal_extracts()
-    ensures text { (form other : Form) (x y : ExtractParts) (c d : CanonParts)
+    ensures text { (format : Format) (form other : Form) (x y : ExtractParts) (c d : CanonParts)
         → IsCanonOf form x c → IsCanonOf other y d → length c.text < 2 ^ 64 → length d.text < 2 ^ 64
-        → HaveSameTables c.lines d.lines ↔ (c.text ≡ d.text) }
+        → format ≢ Text → HaveSameTables format c.lines d.lines ↔ (c.text ≡ d.text) }
     // In one form they have the same tables exactly if they were made of extracts that say the same.
-    ensures meaning { (form : Form) (x y : ExtractParts) (c d : CanonParts)
+    ensures meaning { (format : Format) (form : Form) (x y : ExtractParts) (c d : CanonParts)
         → IsCanonOf form x c → IsCanonOf form y d → length c.text < 2 ^ 64 → length d.text < 2 ^ 64
-        → HaveSameTables c.lines d.lines ↔ SameMeaning x y }
+        → format ≢ Text → HaveSameTables format c.lines d.lines ↔ SameMeaning x y }
 {}
 
 /// The table of the differences of two accepted inputs has a row for each location, record and pair
@@ -66,13 +66,13 @@ pub fn a_row_for_each_difference()
     ensures none { (asked other : Asked) (left right : List ℕ) (x y : ExtractParts)
         (d : DifferencesParts) → IsAccepted asked x left → IsAccepted other y right
         → AreDifferences x y d
-        → (difference_table d ≡ names_line difference_names) ↔ AreNone d }
+        → (difference_rows d ≡ []) ↔ AreNone d }
 {}
 
 /// A pair of records has a row for each field that differs and for no other, and two extracts have one list
 /// of differences: so one table is right.
 pub fn one_table_of_differences()
-    ensures fields { (start : List Field) (fields : TableFields (List ℕ)) (left right : List ℕ)
+    ensures fields { (start : List Value) (fields : TableFields (List ℕ)) (left right : List ℕ)
         → AreRowsOfFields start fields left right }
     ensures once { (x y : ExtractParts) (d e : DifferencesParts) → AreDifferences x y d → AreDifferences x y e → d ≡ e }
 {}

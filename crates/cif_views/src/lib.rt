@@ -11,11 +11,11 @@ mod explanation;
 mod find_clashes;
 mod heading;
 pub mod laws;
+mod line_fields;
 mod listing;
 mod marks;
 mod moment;
 mod public_calls;
-mod table_row;
 mod tables;
 
 pub use calendar_weeks::week_calendar;

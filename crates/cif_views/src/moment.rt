@@ -1,12 +1,12 @@
 //! Moments of a journey.
 ghost use Rattle.std.specs.Prelude.{◌≡◌, ◌<◌, ◌≤◌, ◌+◌, ◌-◌, ◌*◌, ◌/◌, ◌%◌, ◌^◌, ◌++◌, ◌∷◌, ℕ, length, max};
 ghost use Rattle.cif_columns.specs.Digits.{two_digits};
+ghost use Rattle.cif_rows.specs.{Adds.Adds, Row.named, Steps.field_text, declared.shape.Shape.TheVariants.Whole};
 ghost use Rattle.cif_views.specs.Moments.{IsBy, IsOnTheWay, in_day_from, midnight, time_text};
 
-use crate::table_row::TableRow;
 use arrayvec::ArrayString;
-use cif_canon::Shape;
-use cif_columns::{as_text, digits_of};
+use cif_columns::{Sink, WriteDevice, as_text, digits_of};
+use cif_rows::{Padding, RowFormat, Rows, Shape};
 use itoa::Buffer;
 use std::marker::Model;
 
@@ -135,41 +135,53 @@ impl Moment {
         }
     }
 
-    /// Appends a tab and its time as HH:MM:SS, counted from the midnight at which the schedule's date begins.
-    pub(crate) fn push_to(self, row: &mut TableRow)
+    /// Adds to the row its time as HH:MM:SS, counted from the midnight at which the schedule's date begins.
+    pub(crate) fn push_to<F: RowFormat, W: WriteDevice>(
+        self,
+        rows: &mut Rows<F>,
+        name: &str,
+        sink: &mut Sink<W>,
+    )
         requires from { midnight ≤ self }
         requires early { self < DAY * 2 ^ 100 }
-        requires room { length row.old + 48 ≤ 768 }
-        ensures text { row.new ≡ row.old ++ (9 ∷ time_text (self - midnight)) }
-        ensures len { length row.new ≤ length row.old + 48 }
+        requires narrow { length name.now ≤ 100 }
+        ensures { Adds W.contents W.write_errors (field_text F.FORMAT (named name.now (Whole, time_text (self - midnight))))
+            sink.old sink.new rows.old rows.new }
     {
         // Nearly all are on that date.
         if self.day == FIRST_DAY {
             let hour = (self.seconds / 3_600) as u8;
-            row.push(Shape::Whole, &clock_text(hour, self.seconds));
+            let text = clock_text(hour, self.seconds);
+            rows.push(sink, name, Padding::Apart, Shape::Whole, &text);
         } else {
-            self.push_later(row);
+            self.push_later(rows, name, sink);
         }
     }
 
-    /// Appends the moment on any date, behind the hours of the dates before.
+    /// Adds to the row the moment on any date, after the hours of the dates before.
     #[inline(never)]
-    fn push_later(self, row: &mut TableRow)
+    fn push_later<F: RowFormat, W: WriteDevice>(
+        self,
+        rows: &mut Rows<F>,
+        name: &str,
+        sink: &mut Sink<W>,
+    )
         requires from { midnight ≤ self }
         requires early { self < DAY * 2 ^ 100 }
-        requires room { length row.old + 48 ≤ 768 }
-        ensures text { row.new ≡ row.old ++ (9 ∷ time_text (self - midnight)) }
-        ensures len { length row.new ≤ length row.old + 48 }
+        requires narrow { length name.now ≤ 100 }
+        ensures { Adds W.contents W.write_errors (field_text F.FORMAT (named name.now (Whole, time_text (self - midnight))))
+            sink.old sink.new rows.old rows.new }
     {
         let hours = (self.day - FIRST_DAY) * 24 + (self.seconds / 3_600) as u128;
         if hours < 100 {
-            row.push(Shape::Whole, &clock_text(hours as u8, self.seconds));
+            let text = clock_text(hours as u8, self.seconds);
+            rows.push(sink, name, Padding::Apart, Shape::Whole, &text);
             return;
         }
         let mut text = ArrayString::<LONGEST_TIME>::new();
         text.push_str(Buffer::new().format(hours / 100));
         text.push_str(as_text(&clock_text((hours % 100) as u8, self.seconds)));
-        row.push(Shape::Whole, text.as_str().as_bytes());
+        rows.push(sink, name, Padding::Apart, Shape::Whole, text.as_str().as_bytes());
     }
 }
 

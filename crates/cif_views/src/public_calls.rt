@@ -1,20 +1,20 @@
 //! The public calls of a schedule, as rows of a table.
-ghost use Rattle.std.specs.Prelude.{◌≡◌, ◌<◌, ◌≤◌, ◌+◌, ◌^◌, ◌++◌, ◌∷◌, [], ℕ, IfSome, List, cond, length};
+ghost use Rattle.std.specs.Prelude.{◌≡◌, ◌<◌, ◌≤◌, ◌+◌, ◌^◌, ◌++◌, ◌∷◌, [], ℕ, IfSome, List, codes, cond, length, map};
 ghost use Rattle.cif_columns.specs.{Activities.codes_in, Field.columns_from};
 ghost use Rattle.std.specs.List.{flat_map};
-ghost use Rattle.cif_canon.specs.{Appended.IsAppended, Fields.after, declared.rows.Format.TheVariants.Tsv};
-ghost use Rattle.cif_views.specs.{Moments.IsBy, Moments.IsOnTheWay, Steps.GatheredRows.AreRows, Steps.GatheredRows.IsGathered};
+ghost use Rattle.cif_rows.specs.{Adds.Adds, Appended.IsAppended, Row.all_named, Row.named, Row.row_text, Steps.field_text};
+ghost use Rattle.cif_rows.specs.Steps.{fields_text};
+ghost use Rattle.cif_views.specs.Moments.{IsBy, IsOnTheWay};
 ghost use Rattle.cif_views.specs.PublicCalls.{advertised, answer_of, pick_up, platform_in, public_fields, riders_in, riders_of};
 ghost use Rattle.cif_views.specs.PublicCalls.{said_by, set_down, times_in, times_of, working};
 ghost use Rattle.cif_views.specs.Steps.PublicCalls.{at_first, public_from, reached_moment, shown_at, stay, step, step_at};
-ghost use Rattle.cif_views.specs.Steps.PublicRows.{IsJourneyBy, IsStayBy, IsToShow, behind_schedule, joined, row_of_step, shown_in};
-ghost use Rattle.cif_views.specs.Tables.{is_call, kind_of_line, numbered_from, row_line};
+ghost use Rattle.cif_views.specs.Steps.PublicRows.{IsJourneyBy, IsStayBy, IsToShow, joined, public_values, row_of_step, shown_in};
+ghost use Rattle.cif_views.specs.Tables.{is_call, kind_of_line, names, numbered_from, row_of};
 
 use crate::columns::{JourneyKind, call_after, kind_of_line};
 use crate::moment::{Moment, TimeOfDay};
-use crate::table_row::TableRow;
-use cif_canon::Shape;
 use cif_columns::{Line, LineSlice, PublicTime, Sink, WorkTime, WriteDevice, columns_at};
+use cif_rows::{Numeral, Padding, RowFormat, Rows, Shape};
 
 /// The times of day of a call: the working times, and the public ones.
 #[derive(Clone, Copy)]
@@ -314,49 +314,57 @@ impl Journey {
     }
 }
 
-/// Appends the number of a public call with these times, whose activities say this, and its fields.
-fn push_public_call(
-    row: &mut TableRow,
+/// Adds the values of a public call with these times, whose activities say this.
+fn push_public_call<F: RowFormat, W: WriteDevice>(
+    rows: &mut Rows<F>,
+    schedule: &Numeral,
     call: usize,
     line: &Line,
-    times: &CallTimes,
-    riders: &Riders,
-    shown: &Shown,
+    public: &PublicCall<'_>,
+    sink: &mut Sink<W>,
 )
-    requires room { length row.old + 261 ≤ 768 }
-    requires times { times.now ≡ times_of line.now }
-    requires riders { riders.now ≡ riders_of line.now }
-    requires shown { IsToShow shown.now }
-    ensures text { row.new ≡ row.old ++ after Tsv (behind_schedule call line.now shown.now) }
-    ensures len { length row.new ≤ length row.old + 260 }
+    requires times { public.now.times.now ≡ times_of line.now }
+    requires riders { public.now.riders ≡ riders_of line.now }
+    requires shown { IsToShow public.now.shown }
+    ensures { Adds W.contents W.write_errors
+        (fields_text F.FORMAT (all_named (names public_fields) (public_values schedule.now call line.now public.now.shown)))
+        sink.old sink.new rows.old rows.new }
 {
-    let (set_down, pick_up) = answers_of(riders, times);
-    row.push_number(call);
-    row.push(Shape::Trimmed, &columns_at::<7>(line, 3));
-    push_platform(row, kind_of_line(line), line);
-    shown.arrival.push_to(row);
-    shown.departure.push_to(row);
-    row.push(Shape::Whole, &[set_down, b'\t', pick_up]);
+    let (set_down, pick_up) = answers_of(&public.riders, public.times);
+    rows.push_numeral(sink, "schedule", schedule);
+    rows.push_number(sink, "call", call);
+    let location = columns_at::<7>(line, 3);
+    rows.push(sink, "location", Padding::Apart, Shape::Trimmed, &location);
+    push_platform(rows, kind_of_line(line), line, sink);
+    public.shown.arrival.push_to(rows, "arrival", sink);
+    public.shown.departure.push_to(rows, "departure", sink);
+    rows.push(sink, "set_down", Padding::Apart, Shape::Number, &[set_down]);
+    rows.push(sink, "pick_up", Padding::Apart, Shape::Number, &[pick_up]);
 }
 
-/// Appends the row of the line, which is of this kind, behind those that wait, if it is a public call. The journey
-/// goes on behind it, and the number of the next call is returned.
-fn write_step<W: WriteDevice>(
+/// What the table shows of a public call: its times, what its activities say, and its moments.
+#[derive(Clone, Copy)]
+struct PublicCall<'a> {
+    times: &'a CallTimes,
+    riders: Riders,
+    shown: Shown,
+}
+
+/// Adds the row of the line, which is of this kind, if it is a public call. The journey goes on after it, and the
+/// number of the next call is returned.
+fn write_step<F: RowFormat, W: WriteDevice>(
     journey: &mut Journey,
-    row: &mut TableRow,
-    begun: usize,
+    rows: &mut Rows<F>,
+    schedule: &Numeral,
     call: usize,
     line: &Line,
     sink: &mut Sink<W>,
 ) -> usize
     requires by { (n : ℕ) × (n ≤ 2 ^ 64) × IsJourneyBy n journey.old }
-    requires rows { AreRows begun row.old }
     requires call { call ≤ 2 ^ 63 }
-    ensures text { (begin text : List ℕ) (s : Sink W) → begun ≡ length begin
-        → IsGathered W.contents W.write_errors begin text s sink.old row.old
-        → IsGathered W.contents W.write_errors begin
-        (text ++ row_of_step begin call line.now (step_at journey.old line.now).1) s sink.new row.new }
-    ensures rows { AreRows begun row.new }
+    ensures row { Adds W.contents W.write_errors
+        (flat_map (row_text F.FORMAT) (row_of_step schedule.now call line.now (step_at journey.old line.now).1))
+        sink.old sink.new rows.old rows.new }
     ensures journey { journey.new ≡ (step_at journey.old line.now).0 }
     ensures by { (n : ℕ) → IsJourneyBy n journey.old → IsJourneyBy (n + 2) journey.new }
     ensures next { result ≡ cond (is_call (kind_of_line line.now)) (call + 1) call }
@@ -365,37 +373,47 @@ fn write_step<W: WriteDevice>(
     let next = call_after(call, kind);
     let times = CallTimes::of(kind, line);
     if let Some((shown, riders)) = journey.step(&times, kind, line) {
-        row.next_row(begun, sink);
-        push_public_call(row, call, line, &times, &riders, &shown);
+        let public = PublicCall {
+            times: &times,
+            riders,
+            shown,
+        };
+        rows.begin_row(sink);
+        push_public_call(rows, schedule, call, line, &public, sink);
+        rows.end_row(sink);
     }
     next
 }
 
-/// Appends the platform of a call.
-fn push_platform(row: &mut TableRow, kind: JourneyKind, line: &Line)
-    requires { length row.old + 4 ≤ 768 }
-    ensures text { row.new ≡ row.old ++ after Tsv (platform_in kind line.now ∷ []) }
-    ensures len { length row.new ≤ length row.old + 4 }
+/// Adds the platform of a call.
+fn push_platform<F: RowFormat, W: WriteDevice>(
+    rows: &mut Rows<F>,
+    kind: JourneyKind,
+    line: &Line,
+    sink: &mut Sink<W>,
+)
+    ensures { Adds W.contents W.write_errors (field_text F.FORMAT (named (codes "platform") (platform_in kind line.now)))
+        sink.old sink.new rows.old rows.new }
 {
-    match kind {
-        JourneyKind::Stop => row.push(Shape::Trimmed, &columns_at::<3>(line, 34)),
-        _ => row.push(Shape::Trimmed, &columns_at::<3>(line, 20)),
-    }
+    let platform = match kind {
+        JourneyKind::Stop => columns_at::<3>(line, 34),
+        _ => columns_at::<3>(line, 20),
+    };
+    rows.push(sink, "platform", Padding::Apart, Shape::Trimmed, &platform);
 }
 
 /// Appends the rows of a schedule's public calls. They all begin with its number.
-pub(crate) fn write_public_calls<W: WriteDevice>(
+pub(crate) fn write_public_calls<F: RowFormat, W: WriteDevice>(
     schedule: usize,
     lines: LineSlice<'_>,
     sink: &mut Sink<W>,
 )
     ensures { IsAppended W.contents W.write_errors
-        (flat_map (row_line public_fields) (public_from at_first (numbered_from schedule 1 lines.entry)))
+        (flat_map (row_text F.FORMAT) (map (row_of public_fields) (public_from at_first (numbered_from schedule 1 lines.entry))))
         sink.old sink.new }
 {
-    let mut row = TableRow::new();
-    row.push_number(schedule);
-    let begun = row.len();
+    let mut rows = Rows::<F>::new();
+    let number = Numeral::of(schedule);
     let mut journey = Journey {
         left: None,
         shown: Moment::on_date(TimeOfDay::new(0)),
@@ -404,8 +422,8 @@ pub(crate) fn write_public_calls<W: WriteDevice>(
     let mut lines = lines;
     lines.are_few();
     while !lines.is_empty() {
-        call = write_step(&mut journey, &mut row, begun, call, &lines.first(), sink);
+        call = write_step(&mut journey, &mut rows, &number, call, &lines.first(), sink);
         lines = lines.rest();
     }
-    row.write_rows(begun, sink);
+    rows.finish(sink);
 }

@@ -1,10 +1,10 @@
 -- The fields of lines by the columns of the tables. No public clause cites them.
-use Rattle.std.specs.Prelude.{Bool, List, [], codes, drop, length, map, nat_eq, nat_le, true, ℕ, ⊤, ◌&&◌, ◌++◌, ◌+◌, ◌-◌, ◌∷◌, ◌≡◌}
+use Rattle.std.specs.Prelude.{Bool, List, [], length, map, nat_eq, nat_le, true, ℕ, ◌&&◌, ◌*◌, ◌+◌, ◌-◌, ◌∷◌}
 use Rattle.std.specs.Borrow.{Bor}
 use Rattle.cif_columns.specs.Field.{columns}
-use Rattle.cif_canon.specs.{Fields.Field, Fields.after, declared.rows.Format.TheVariants.Tsv, declared.rows.Shape.Shape}
-use Rattle.cif_canon.specs.declared.rows.Shape.TheVariants as shape
-use Rattle.cif_views.specs.{DifferenceTable.text, Tables.yymmdd_from}
+use Rattle.cif_rows.specs.Row.{Field, Value, named}
+use Rattle.cif_rows.specs.declared.shape.Shape.TheVariants as shape
+use Rattle.cif_views.specs.Tables.{yymmdd_from}
 use Rattle.cif_views.specs.declared.{columns.FieldPlace.FieldPlace, columns.JourneyKind.JourneyKind}
 use Rattle.cif_views.specs.declared.columns.FieldPlace.TheVariants.{Call, Date, DayFirst, Nowhere, Text, Whole}
 use Rattle.cif_views.specs.declared.columns.TheConstants.{ASSOCIATION, BASIC, CALL, CHANGE, EXTRA}
@@ -17,8 +17,8 @@ Column = List ℕ × FieldPlace
 abbrev pub column : Bor (List ℕ) × FieldPlace → Column
 column given = (given.0.now, given.1)
 
-abbrev pub named : List (Bor (List ℕ) × FieldPlace) → List Column
-named given = map column given
+abbrev pub columns_of : List (Bor (List ℕ) × FieldPlace) → List Column
+columns_of given = map column given
 
 -- those that a clause or a proof names
 abbrev pub over : {A B : Type 0} → List A → (A → B) → List B
@@ -55,7 +55,7 @@ span_in kind (DayFirst first last) = (first, last)
 span_in kind Nowhere = (1, 0)
 span_in kind (Call origin stop terminus) = span_of_call kind origin stop terminus
 
-abbrev pub shown_at : FieldPlace → List ℕ → Field
+abbrev pub shown_at : FieldPlace → List ℕ → Value
 shown_at (Text _ _) there = (shape.Trimmed, there)
 shown_at (Whole _ _) there = (shape.Whole, there)
 shown_at (Date _ _) there = (shape.Date, there)
@@ -63,20 +63,21 @@ shown_at (DayFirst _ _) there = (shape.Date, yymmdd_from there)
 shown_at Nowhere there = (shape.Trimmed, there)
 shown_at (Call _ _ _) there = (shape.Trimmed, there)
 
-abbrev pub field_in : JourneyKind → List ℕ → FieldPlace → Field
-field_in kind line place = let span = span_in kind place in shown_at place (columns span.0 span.1 line)
+abbrev pub value_in : JourneyKind → List ℕ → FieldPlace → Value
+value_in kind line place = let span = span_in kind place in shown_at place (columns span.0 span.1 line)
+
+abbrev pub values_in : JourneyKind → List Column → List ℕ → List Value
+values_in kind columns line = map (λ c. value_in kind line c.1) columns
+
+-- the fields of a line of this kind
+abbrev pub field_in : JourneyKind → List ℕ → Column → Field
+field_in kind line c = named c.0 (value_in kind line c.1)
 
 abbrev pub fields_in : JourneyKind → List Column → List ℕ → List Field
-fields_in kind columns line = map (λ c. field_in kind line c.1) columns
+fields_in kind columns line = map (field_in kind line) columns
 
--- the names of fields, as fields
-abbrev pub name_fields : List Column → List Field
-name_fields columns = map (λ c. text c.0) columns
-
--- six digits are shown as a date
-abbrev pub IsOfShape : Shape → List ℕ → Type 0
-IsOfShape shape.Date columns = length columns ≡ 6
-IsOfShape _ columns = ⊤
+abbrev pub column_names : List Column → List (List ℕ)
+column_names columns = map (λ c. c.0) columns
 
 -- columns are within a line; a place has such in each line: that of a date six, and that of a call twelve at most
 abbrev pub is_span : ℕ × ℕ → Bool
@@ -97,23 +98,18 @@ abbrev pub are_within : List Column → Bool
 are_within [] = true
 are_within (c ∷ columns) = is_within c.1 && are_within columns
 
--- how many bytes a place takes in a row at most, with its tab; and a name
-abbrev pub room_of : FieldPlace → ℕ
-room_of (Text first last) = last + 1 - first + 1
-room_of (Whole first last) = last + 1 - first + 1
-room_of (Date _ _) = 11
-room_of (DayFirst _ _) = 11
-room_of Nowhere = 1
-room_of (Call _ _ _) = 13
+-- how many bytes a place takes at most; and a field in a row of any format, with its name
+abbrev pub width_of : FieldPlace → ℕ
+width_of (Text first last) = last + 1 - first
+width_of (Whole first last) = last + 1 - first
+width_of (Date _ _) = 10
+width_of (DayFirst _ _) = 10
+width_of Nowhere = 0
+width_of (Call _ _ _) = 12
+
+abbrev pub room_of : Column → ℕ
+room_of c = length c.0 + 2 * width_of c.1 + 8
 
 abbrev pub room_for : List Column → ℕ
 room_for [] = 0
-room_for (c ∷ columns) = room_of c.1 + room_for columns
-
-abbrev pub room_for_names : List Column → ℕ
-room_for_names [] = 0
-room_for_names (c ∷ columns) = length c.0 + 1 + room_for_names columns
-
--- the row of these fields behind what it begins with
-abbrev pub row_behind : List ℕ → List Field → List ℕ
-row_behind begun fields = drop 1 (begun ++ after Tsv fields) ++ codes "\n"
+room_for (c ∷ columns) = room_of c + room_for columns

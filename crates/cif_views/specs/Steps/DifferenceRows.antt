@@ -1,12 +1,13 @@
 -- The rows of differences as the code makes them. No public clause cites them.
-use Rattle.std.specs.Prelude.{Bool, List, [], codes, cond, drop, false, if◌then◌else◌, length, map, nat_eq, nat_le, replicate, take, true}
+use Rattle.std.specs.Prelude.{Bool, List, [], codes, cond, decimal, drop, false, if◌then◌else◌, length, map, nat_eq, nat_le, replicate, true}
 use Rattle.std.specs.Prelude.{ℕ, ◌&&◌, ◌++◌, ◌+◌, ◌∷◌}
 use Rattle.std.specs.{Cmp.Lexicographic.pointwise, List.flat_map}
 use Rattle.cif_columns.specs.Field.{columns}
-use Rattle.cif_canon.specs.{Fields.Field, Fields.after, Fields.nothing, Fields.shown, declared.rows.Format.TheVariants.Tsv}
-use Rattle.cif_views.specs.{DifferenceTable.text, Tables.is_call, Tables.is_change, Tables.kind_of_line, Tables.number}
-use Rattle.cif_views.specs.Steps.Columns.{Column, call_columns, change_columns, field_in, fields_in, is_within, row_behind}
-use Rattle.cif_views.specs.declared.{columns.FieldPlace.FieldPlace, columns.JourneyKind.JourneyKind, columns.JourneyKind.TheVariants.Other}
+use Rattle.cif_rows.specs.{Row.Value, Row.cell_of, Row.nothing, Row.text, declared.format.Format.Format}
+use Rattle.cif_views.specs.DifferenceTable.{difference_text, differing_row, in_journey}
+use Rattle.cif_views.specs.Tables.{is_call, is_change, kind_of_line}
+use Rattle.cif_views.specs.Steps.Columns.{Column, call_columns, change_columns, is_within, value_in}
+use Rattle.cif_views.specs.declared.{columns.FieldPlace.FieldPlace, columns.JourneyKind.JourneyKind}
 use Rattle.cif_views.specs.declared.columns.FieldPlace.TheVariants.{Call, Date, DayFirst, Nowhere, Text, Whole}
 
 -- fields that are shown as text, and whose names are short
@@ -25,12 +26,15 @@ abbrev pub are_texts : List Column → Bool
 are_texts [] = true
 are_texts (c ∷ columns) = is_text c && are_texts columns
 
--- the row of a field behind what it begins with, if its cells differ
-unfoldable pub field_row : List ℕ → JourneyKind → List ℕ → List ℕ → Column → List ℕ
-field_row begun kind left right c =
-    let one = field_in kind left c.1 in
-    let other = field_in kind right c.1 in
-    if pointwise nat_eq (shown Tsv one) (shown Tsv other) then [] else row_behind begun (text c.0 ∷ one ∷ other ∷ [])
+-- the row of a field, after the values with which it begins, if its cells differ
+unfoldable pub field_row : List Value → JourneyKind → List ℕ → List ℕ → Column → List (List Value)
+field_row start kind left right c =
+    let one = value_in kind left c.1 in
+    let other = value_in kind right c.1 in
+    if pointwise nat_eq (cell_of one) (cell_of other) then [] else differing_row start c.0 one other ∷ []
+
+abbrev pub field_rows : List Value → JourneyKind → List ℕ → List ℕ → List Column → List (List Value)
+field_rows start kind left right columns = flat_map (field_row start kind left right) columns
 
 -- the fields that a line of a journey has behind its suffix
 abbrev pub own_columns : JourneyKind → List Column
@@ -44,24 +48,27 @@ abbrev pub count_of_calls : List (List ℕ) → ℕ
 count_of_calls [] = 0
 count_of_calls (line ∷ lines) = cond (is_call (kind_of_line line)) (count_of_calls lines + 1) (count_of_calls lines)
 
--- the rows of one place of both journeys, behind what they begin with
-abbrev pub place_behind : List ℕ → ℕ → JourneyKind → List ℕ → List ℕ → List ℕ
-place_behind begun call kind line other =
-    flat_map (field_row (begun ++ after Tsv (number call ∷ fields_in Other (take 2 call_columns) line)) kind line other) (own_columns kind)
+-- the rows of one place of both journeys
+abbrev pub rows_of_place : List Value → ℕ → JourneyKind → List ℕ → List ℕ → List (List Value)
+rows_of_place head call kind line other = field_rows (in_journey head call line) kind line other (own_columns kind)
 
 -- the rows of lines with the same places; the first call that comes has this number
-abbrev pub places_behind : List ℕ → ℕ → List (List ℕ) → List (List ℕ) → List ℕ
-places_behind begun call [] rights = []
-places_behind begun call (line ∷ lefts) [] = []
-places_behind begun call (line ∷ lefts) (other ∷ rights) =
-    place_behind begun call (kind_of_line line) line other
-    ++ places_behind begun (cond (is_call (kind_of_line line)) (call + 1) call) lefts rights
+abbrev pub rows_of_places : List Value → ℕ → List (List ℕ) → List (List ℕ) → List (List Value)
+rows_of_places head call [] rights = []
+rows_of_places head call (line ∷ lefts) [] = []
+rows_of_places head call (line ∷ lefts) (other ∷ rights) =
+    rows_of_place head call (kind_of_line line) line other
+    ++ rows_of_places head (cond (is_call (kind_of_line line)) (call + 1) call) lefts rights
 
 -- and those of two journeys
-abbrev pub call_counts : ℕ → ℕ → List Field
-call_counts one other = replicate 3 nothing ++ (text (codes "journey") ∷ number one ∷ number other ∷ [])
+abbrev pub row_of_counts : List Value → ℕ → ℕ → List Value
+row_of_counts head one other = differing_row (head ++ replicate 3 nothing) (codes "journey") (text (decimal one)) (text (decimal other))
 
-abbrev pub journeys_behind : List ℕ → List (List ℕ) → List (List ℕ) → List ℕ
-journeys_behind begun lefts rights =
-    cond (same_places lefts rights) (places_behind begun 1 lefts rights)
-    (row_behind begun (call_counts (count_of_calls lefts) (count_of_calls rights)))
+abbrev pub rows_of_journeys : List Value → List (List ℕ) → List (List ℕ) → List (List Value)
+rows_of_journeys head lefts rights =
+    cond (same_places lefts rights) (rows_of_places head 1 lefts rights)
+    (row_of_counts head (count_of_calls lefts) (count_of_calls rights) ∷ [])
+
+-- the text of rows
+abbrev pub rows_text : Format → List (List Value) → List ℕ
+rows_text format rows = flat_map (difference_text format) rows

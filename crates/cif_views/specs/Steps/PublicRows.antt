@@ -1,28 +1,30 @@
 -- The rows of public calls as the code makes them. No public clause cites them.
 use Rattle.std.specs.Prelude.{ℕ, ◌≤◌, ◌&&◌, ◌||◌, ◌+◌, ◌*◌, ◌-◌, ◌^◌, ◌<◌, IfSome, List, [], ◌∷◌, None, Option, Some}
-use Rattle.cif_canon.specs.{Fields.Field, declared.rows.Shape.TheVariants.Whole}
+use Rattle.cif_rows.specs.Row.{Field, Value, all_named, number}
+use Rattle.cif_rows.specs.declared.shape.Shape.TheVariants.{Number, Whole}
 use Rattle.cif_views.specs.Moments.{IsBy, day, midnight, time_text}
-use Rattle.cif_views.specs.PublicCalls.{pick_up, platform_in, riders_of, set_down, times_of}
-use Rattle.cif_views.specs.{Steps.Columns.row_behind, declared.public_calls.Journey.Journey, declared.public_calls.Riders.Riders}
+use Rattle.cif_views.specs.PublicCalls.{pick_up, platform_in, public_fields, riders_of, set_down, times_of}
+use Rattle.cif_views.specs.{declared.public_calls.Journey.Journey, declared.public_calls.Riders.Riders}
 use Rattle.cif_views.specs.{declared.public_calls.Shown.Shown, declared.public_calls.Stay.Stay}
-use Rattle.cif_views.specs.Tables.{kind_of_line, number, text_at}
+use Rattle.cif_views.specs.Tables.{kind_of_line, names, text_at}
 
--- the fields of a public call behind the number of its schedule
-abbrev pub behind_schedule : ℕ → List ℕ → Shown → List Field
-behind_schedule call line shown =
-    number call
+-- the values of a public call, whose schedule has this numeral
+abbrev pub public_values : List ℕ → ℕ → List ℕ → Shown → List Value
+public_values schedule call line shown =
+    (Number, schedule)
+    ∷ number call
     ∷ text_at 3 9 line
     ∷ platform_in (kind_of_line line) line
     ∷ (Whole, time_text (shown.arrival - midnight))
     ∷ (Whole, time_text (shown.departure - midnight))
-    ∷ (Whole, set_down (riders_of line) (times_of line))
-    ∷ (Whole, pick_up (riders_of line) (times_of line))
+    ∷ (Number, set_down (riders_of line) (times_of line))
+    ∷ (Number, pick_up (riders_of line) (times_of line))
     ∷ []
 
--- its row behind what it begins with; a line that is no public call has none
-abbrev pub row_of_step : List ℕ → ℕ → List ℕ → Option Shown → List ℕ
-row_of_step begun call line None = []
-row_of_step begun call line (Some shown) = row_behind begun (behind_schedule call line shown)
+-- its row; a line that is no public call has none
+abbrev pub row_of_step : List ℕ → ℕ → List ℕ → Option Shown → List (List Field)
+row_of_step schedule call line None = []
+row_of_step schedule call line (Some shown) = all_named (names public_fields) (public_values schedule call line shown) ∷ []
 
 -- the moments of what is said of a public call
 abbrev pub shown_in : Option (Shown × Riders) → Option Shown

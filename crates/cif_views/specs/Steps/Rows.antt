@@ -4,9 +4,9 @@ use Rattle.std.specs.Borrow.{Bor}
 use Rattle.cif_extract.specs.Body.{BodyLines}
 use Rattle.cif_canon.specs.Fields.{Field, line_of}
 use Rattle.cif_canon.specs.declared.{rows.Format.Format, rows.Format.TheVariants.Text, rows.Format.TheVariants.Tsv}
-use Rattle.cif_views.specs.{Calls.calls_text, Tables.names_line, declared.listing.First.First, declared.listing.First.TheVariants.Date}
+use Rattle.cif_views.specs.{Calls.calls_text, declared.listing.First.First, declared.listing.First.TheVariants.Date}
 use Rattle.cif_views.specs.{declared.listing.First.TheVariants.Train, declared.listing.Listing.Listing}
-use Rattle.cif_views.specs.Listing.{call_names_if, date_field, if_table, journey_names, uid_field}
+use Rattle.cif_views.specs.Listing.{call_names_if, date_field, if_table, journey_names, names_line, uid_field}
 
 -- the lines of a train, whose own fields are the row, with those of its calls
 abbrev pub row_and_calls : Format → List ℕ → BodyLines → List ℕ

@@ -1,0 +1,4 @@
+pub mod Adds
+pub mod Appended
+pub mod Row
+pub mod Steps
