@@ -159,13 +159,14 @@ module _ {W : Type 0} (contents : W → Option (List ℕ)) (errors : W → Optio
 -- the texts of items, one after another: of one more, and of all
 module _ {A W : Type 0} (contents : W → Option (List ℕ)) (errors : W → Option ℕ) (text : A → List ℕ) (items : List A) (n : ℕ)
     (s t : Sink W) (w x : List ℕ) (so_far : Adds contents errors (flat_map text (take n items)) s t w x) where
-  pub one-added : (item : A) (u : Sink W) (y : List ℕ) → n < length items → item ≡ get_or items n item →
-      Adds contents errors (text item) t u x y → Adds contents errors (flat_map text (take (n + 1) items)) s u w y
-  one-added item u y below is h =
+  pub one-added : (none : A) (u : Sink W) (y : List ℕ) → n < length items →
+      Adds contents errors (text (get_or items n none)) t u x y → Adds contents errors (flat_map text (take (n + 1) items)) s u w y
+  one-added none u y below h =
+      let item = get_or items n none in
       added-is contents errors _ _ s u w y
       (ap (λ (l : List ℕ). flat_map text (take n items) ++ l) (sym (append-nil (text item)))
       ∙ sym (flat_map-append text (take n items) (item ∷ []))
-      ∙ ap (flat_map text) (ap (λ i. take n items ++ (i ∷ [])) is ∙ sym (take_more items n item below)))
+      ∙ ap (flat_map text) (sym (take_more items n none below)))
       (added-both contents errors _ _ s t u w x y so_far h)
 
   pub all-added : length items ≤ n → Adds contents errors (flat_map text items) s t w x
@@ -200,11 +201,27 @@ module _ {W : Type 0} (contents : W → Option (List ℕ)) (errors : W → Optio
   fields-added fs gs s t u w x y p q =
       added-is contents errors _ _ s u w y (sym (flat_map-append (field_text format) fs gs)) (added-both contents errors _ _ s t u w x y p q)
 
-  -- a row
-  pub row-added : (f : Field) (fields : List Field) (s t u v : Sink W) (w x y z : List ℕ) → f.padding ≡ Apart →
-      Adds contents errors (opening format) s t w x → Adds contents errors (fields_text format (f ∷ fields)) t u x y →
+  -- a row, from its beginning to its end
+  pub row-added : (row : List Field) (s t u v : Sink W) (w x y z : List ℕ) → 0 < length (fields_text format row) →
+      Adds contents errors (opening format) s t w x → Adds contents errors (fields_text format row) t u x y →
       Adds contents errors (drop 1 (closing format)) u v (without_last y ++ take 1 (closing format)) z →
-      Adds contents errors (row_text format (f ∷ fields)) s v w z
-  row-added f fields s t u v w x y z apart begin all end =
-      row-ended contents errors format (f ∷ fields) s u v w y z (added-both contents errors _ _ s t u w x y begin all)
-      (some-field format f fields apart) end
+      Adds contents errors (row_text format row) s v w z
+  row-added row s t u v w x y z some begin all end =
+      row-ended contents errors format row s u v w y z (added-both contents errors _ _ s t u w x y begin all) some end
+
+-- what has been added to nothing is written
+module _ {W : Type 0} (contents : W → Option (List ℕ)) (errors : W → Option ℕ) where
+  pub all-written : (text : List ℕ) (s t u : Sink W) (w x : List ℕ) → w ≡ [] → Adds contents errors text s t w x →
+      IsAppended contents errors x t u → IsAppended contents errors text s u
+  all-written text s t u w x none h last =
+      text-is contents errors _ _ s u (ap (λ (l : List ℕ). l ++ text) none) (added-all contents errors text s t u w x h last)
+
+-- three fields
+module _ {W : Type 0} (contents : W → Option (List ℕ)) (errors : W → Option ℕ) (format : Format) where
+  pub three-fields : (a b c : Field) (s t u v : Sink W) (w x y z : List ℕ) → Adds contents errors (field_text format a) s t w x →
+      Adds contents errors (field_text format b) t u x y → Adds contents errors (field_text format c) u v y z →
+      Adds contents errors (fields_text format (a ∷ b ∷ c ∷ [])) s v w z
+  three-fields a b c s t u v w x y z one two three =
+      fields-added contents errors format (a ∷ []) (b ∷ c ∷ []) s t v w x z (field-added contents errors format a s t w x one)
+      (fields-added contents errors format (b ∷ []) (c ∷ []) t u v x y z (field-added contents errors format b t u x y two)
+      (field-added contents errors format c u v y z three))

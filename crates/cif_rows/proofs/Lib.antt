@@ -4,3 +4,4 @@ pub mod Buffers
 pub mod LongDates
 pub mod Names
 pub mod Quoted
+pub mod RowTexts

@@ -1,7 +1,7 @@
 -- A row: fields with names, and its text in each format.
-use Rattle.std.specs.Prelude.{Bool, List, [], codes, decimal, if◌then◌else◌, length, map, nat_eq, nat_lt, slice_index_or, take, ℕ, ◌++◌, ◌-◌, ◌||◌, ◌∷◌}
+use Rattle.std.specs.Prelude.{All, Bool, List, [], codes, decimal, if◌then◌else◌, length, map, nat_eq, nat_lt, slice_index_or, take, ℕ, ◌++◌, ◌-◌, ◌||◌, ◌∷◌, ◌≤◌}
 use Rattle.std.specs.List.{flat_map, join_with_byte}
-use Rattle.cif_columns.specs.Lines.{used}
+use Rattle.cif_columns.specs.{Line.ArePrintable, Lines.used}
 use Rattle.cif_rows.specs.declared.{format.Format.Format, shape.Padding.Padding, shape.Shape.Shape}
 use Rattle.cif_rows.specs.declared.format.Format.TheVariants.{Json, Text, Tsv}
 use Rattle.cif_rows.specs.declared.shape.{Padding.TheVariants.Apart, Padding.TheVariants.Hidden, Padding.TheVariants.Joined}
@@ -123,3 +123,15 @@ abbrev pub heading_text : Format → List (List ℕ) → List ℕ
 heading_text Text names = []
 heading_text Tsv names = join_with_byte 9 names ++ codes "\n"
 heading_text Json names = []
+
+-- ---- what a row says
+
+-- A cell can be told from what stands around it: a number has digits only, and other cells have bytes from 0x20 to 0x7E.
+abbrev pub IsDigit : ℕ → Type 0
+IsDigit b = (48 ≤ b) × (b ≤ 57)
+
+abbrev pub IsSaid : Value → Type 0
+IsSaid (Number, columns) = All IsDigit columns
+IsSaid (Trimmed, columns) = ArePrintable (trimmed columns)
+IsSaid (Whole, columns) = ArePrintable columns
+IsSaid (Date, columns) = ArePrintable (long_date columns)

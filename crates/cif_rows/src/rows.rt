@@ -387,7 +387,7 @@ impl<F: RowFormat> Rows<F> {
 
     /// Adds the name of a field, if names stand before the rows.
     pub fn push_name<W: WriteDevice>(&mut self, sink: &mut Sink<W>, name: &str)
-        requires narrow { length name.now ≤ 400 }
+        requires narrow { length name.now < FULL }
         ensures { Adds W.contents W.write_errors (name_text F.FORMAT name.now) sink.old sink.new self.old self.new }
     {
         match F::FORMAT {

@@ -1,62 +1,51 @@
 -- Where no field of a pair has a row, what stands in the columns of all its fields is the same.
-use Rattle.cif_views.proofs.Names.{AllStandIn, Bool, Column, Field, FieldPlace, FieldValue, IsLine, IsTrue, JourneyKind, List, Row}
-use Rattle.cif_views.proofs.Names.{StandsIn, TableFields, Trimmed, Tsv, [], and_parts, ap, ap₂, arith, bytes_decides, codes, columns, cond}
-use Rattle.cif_views.proofs.Names.{differing_row, differing_rows, drop, drop-drop, drop-take, eqb-true, false, false≢true, field_in}
-use Rattle.cif_views.proofs.Names.{field_row, fields_in, fields_text, flat_map, get_or, if◌then◌else◌, leb-true, length, length-append}
-use Rattle.cif_views.proofs.Names.{length-columns, length-take-le, line_of, long_date, map, nat_eq, nat_le, nat_lt, or_cases, pointwise}
-use Rattle.cif_views.proofs.Names.{refl, replicate, row_behind, row_fields, shown, span_in, spare, subst, sym, take, take-add, take-take}
-use Rattle.cif_views.proofs.Names.{trimmed, true, used, yymmdd_from, ℕ, ⊎_elim, ◌&&◌, ◌++◌, ◌+◌, ◌-◌, ◌<◌, ◌||◌, ◌∙◌, ◌∷◌, ◌≡◌, ◌≤◌}
+use Rattle.cif_views.proofs.Names.{AllStandIn, Bool, Column, FieldPlace, FieldValue, IsLine, IsTrue, JourneyKind, List, Row}
+use Rattle.cif_views.proofs.Names.{StandsIn, TableFields, [], and_parts, ap, ap₂, arith, bytes_decides, codes, columns, cond}
+use Rattle.cif_views.proofs.Names.{differing_row, differing_rows, drop, drop-drop, drop-take, eqb-true, false, false≢true, field_row}
+use Rattle.cif_views.proofs.Names.{field_rows, get_or, if◌then◌else◌, leb-true, length, length-columns, length-take-le, map, nat_eq, nat_le}
+use Rattle.cif_views.proofs.Names.{nat_lt, or_cases, pointwise, refl, replicate, row_values, span_in, spare, subst, sym, take, take-add}
+use Rattle.cif_views.proofs.Names.{take-take, true, used, value_in, values_in, yymmdd_from, ℕ, ⊎_elim, ◌&&◌, ◌++◌, ◌+◌, ◌-◌, ◌<◌, ◌||◌}
+use Rattle.cif_views.proofs.Names.{◌∙◌, ◌∷◌, ◌≡◌, ◌≤◌}
 use Rattle.cif_columns.proofs.KeptLines.{trimmed as widened, used_few}
-use Rattle.cif_canon.specs.Fields.{after}
-use Rattle.cif_views.specs.{DifferenceTable.text, Steps.Columns.shown_at}
+use Rattle.cif_views.proofs.RowNames.{Value, cell_of, long_date, trimmed}
+use Rattle.cif_views.specs.Steps.Columns.{shown_at}
 use Rattle.cif_views.specs.declared.columns.FieldPlace.TheVariants as place
 
 -- ---- rows
-
--- a row has a byte at least: its line feed
-pub some-row : (fields : List Field) → 0 < length (line_of Tsv fields)
-some-row fields = omega (arith, length-append (fields_text Tsv fields) (codes "\n"))
 
 -- neither of two lists has an element
 pub both-none : {A : Type 0} (xs ys : List A) → xs ++ ys ≡ [] → (xs ≡ []) × (ys ≡ [])
 both-none [] ys none = (refl, none)
 both-none (x ∷ xs) ys none = absurd (let long = ap length none in omega (arith, long))
 
-first-none : (same : Bool) (a b row rest : List ℕ) → pointwise nat_eq a b ≡ same → 0 < length row → cond same [] row ++ rest ≡ [] →
-    (a ≡ b) × (rest ≡ [])
-first-none true a b row rest is some none = ((bytes_decides a b).0 is, none)
-first-none false a b row rest is some none =
-    absurd (let long = ap length none in omega (arith, some, long, length-append row rest))
+first-none : {R : Type 0} (same : Bool) (a b : List ℕ) (row : R) (rest : List R) → pointwise nat_eq a b ≡ same →
+    cond same [] (row ∷ []) ++ rest ≡ [] → (a ≡ b) × (rest ≡ [])
+first-none true a b row rest is none = ((bytes_decides a b).0 is, none)
+first-none false a b row rest is none = absurd (let long = ap length none in omega (arith, long))
 
-module _ (start : List Field) (left right : List ℕ) where
+module _ (start : List Value) where
   -- where no field has a row, the cells of all are the same
-  pub same-cells : (fields : TableFields (List ℕ)) → differing_rows start fields left right ≡ [] →
-      map (shown Tsv) (row_fields fields left) ≡ map (shown Tsv) (row_fields fields right)
-  same-cells [] none = refl
-  same-cells (f ∷ fields) none =
-      let a = shown Tsv (f.1 left) in
-      let b = shown Tsv (f.1 right) in
+  pub same-cells : (left right : List ℕ) (fields : TableFields (List ℕ)) → differing_rows start fields left right ≡ [] →
+      map cell_of (row_values fields left) ≡ map cell_of (row_values fields right)
+  same-cells left right [] none = refl
+  same-cells left right (f ∷ fields) none =
+      let a = cell_of (f.1 left) in
+      let b = cell_of (f.1 right) in
       let (same, others) = first-none (pointwise nat_eq a b) a b (differing_row start f.0 (f.1 left) (f.1 right))
-      (differing_rows start fields left right) refl (some-row (start ++ ((Trimmed, f.0) ∷ f.1 left ∷ f.1 right ∷ []))) none in
-      ap₂ (λ (c : List ℕ) (cs : List (List ℕ)). c ∷ cs) same (same-cells fields others)
+      (differing_rows start fields left right) refl none in
+      ap₂ (λ (c : List ℕ) (cs : List (List ℕ)). c ∷ cs) same (same-cells left right fields others)
 
-pub some-behind : (begun : List ℕ) (fields : List Field) → 0 < length (row_behind begun fields)
-some-behind begun fields = omega (arith, length-append (drop 1 (begun ++ after Tsv fields)) (codes "\n"))
-
--- and the same of fields by their columns
-pub same-cells_in : (begun : List ℕ) (kind : JourneyKind) (left right : List ℕ) (own : List Column) →
-    flat_map (field_row begun kind left right) own ≡ [] →
-    map (shown Tsv) (fields_in kind own left) ≡ map (shown Tsv) (fields_in kind own right)
-unfolding field_row
-same-cells_in begun kind left right [] none = refl
-same-cells_in begun kind left right (c ∷ own) none =
-    let one = field_in kind left c.1 in
-    let other = field_in kind right c.1 in
-    let fields : List Field = text c.0 ∷ one ∷ other ∷ [] in
-    let (same, others) = first-none (pointwise nat_eq (shown Tsv one) (shown Tsv other)) (shown Tsv one) (shown Tsv other)
-    (row_behind begun fields) (flat_map (field_row begun kind left right) own) refl
-    (some-behind begun fields) none in
-    ap₂ (λ (a : List ℕ) (cells : List (List ℕ)). a ∷ cells) same (same-cells_in begun kind left right own others)
+  -- and the same of fields by their columns
+  pub same-cells_in : (kind : JourneyKind) (left right : List ℕ) (own : List Column) → field_rows start kind left right own ≡ [] →
+      map cell_of (values_in kind own left) ≡ map cell_of (values_in kind own right)
+  unfolding field_row
+  same-cells_in kind left right [] none = refl
+  same-cells_in kind left right (c ∷ own) none =
+      let one = value_in kind left c.1 in
+      let other = value_in kind right c.1 in
+      let (same, others) = first-none (pointwise nat_eq (cell_of one) (cell_of other)) (cell_of one) (cell_of other)
+      (differing_row start c.0 one other) (field_rows start kind left right own) refl none in
+      ap₂ (λ (a : List ℕ) (cells : List (List ℕ)). a ∷ cells) same (same-cells_in kind left right own others)
 
 -- ---- columns
 
@@ -103,7 +92,7 @@ is_six _ from to = true
 
 -- as many columns of a field are the same where they are shown as the same
 same-shown : (at : FieldPlace) (from to : ℕ) (a b : List ℕ) → length a ≡ to + 1 - from → length b ≡ to + 1 - from →
-    IsTrue (is_six at from to) → shown Tsv (shown_at at a) ≡ shown Tsv (shown_at at b) → a ≡ b
+    IsTrue (is_six at from to) → cell_of (shown_at at a) ≡ cell_of (shown_at at b) → a ≡ b
 same-shown (place.Text _ _) from to a b p q six same = same-columns a b (p ∙ sym q) same
 same-shown place.Nowhere from to a b p q six same = same-columns a b (p ∙ sym q) same
 same-shown (place.Call _ _ _) from to a b p q six same = same-columns a b (p ∙ sym q) same
@@ -181,7 +170,7 @@ module _ (l m : List ℕ) where
 
     -- fields whose cells are the same have the same columns
     of-run : (from to : ℕ) (own : List Column) → 1 ≤ from → to ≤ 80 →
-        map (shown Tsv) (fields_in kind own l) ≡ map (shown Tsv) (fields_in kind own m) → IsTrue (is_run kind from to own) →
+        map cell_of (values_in kind own l) ≡ map cell_of (values_in kind own m) → IsTrue (is_run kind from to own) →
         columns from to l ≡ columns from to m
     of-run from to [] one end same is = absurd (false≢true is)
     of-run from to (c ∷ own) one end same is =
@@ -209,7 +198,7 @@ module _ (l m : List ℕ) where
         (or_cases (nat_eq span.1 to) (is_run kind (span.1 + 1) to own) ends)
 
     of-field : (from to : ℕ) (own : List Column) → 1 ≤ from → to ≤ 80 →
-        map (shown Tsv) (fields_in kind own l) ≡ map (shown Tsv) (fields_in kind own m) → IsTrue (is_field kind from to own) →
+        map cell_of (values_in kind own l) ≡ map cell_of (values_in kind own m) → IsTrue (is_field kind from to own) →
         columns from to l ≡ columns from to m
     of-field from to [] one end same is = absurd (false≢true is)
     of-field from to (c ∷ own) one end same is = ⊎_elim
@@ -218,7 +207,7 @@ module _ (l m : List ℕ) where
         (or_cases (is_run kind from to (c ∷ own)) (is_field kind from to own) is)
 
     pub covered : (from to : ℕ) (own : List Column) → IsTrue (is_among front kind own from to) →
-        map (shown Tsv) (fields_in kind own l) ≡ map (shown Tsv) (fields_in kind own m) → columns from to l ≡ columns from to m
+        map cell_of (values_in kind own l) ≡ map cell_of (values_in kind own m) → columns from to l ≡ columns from to m
     covered from to own is same =
         let (within, there) = and_parts (nat_le 1 from && (nat_le from to && nat_le to 80)) _ is in
         let (a, more) = and_parts (nat_le 1 from) _ within in
@@ -233,7 +222,7 @@ module _ (l m : List ℕ) where
     used-same value c d test is same = same is
 
     pub all-covered : (own : List Column) (rows : List Row) → IsTrue (are_covered front kind own rows) →
-        map (shown Tsv) (fields_in kind own l) ≡ map (shown Tsv) (fields_in kind own m) → AllSame rows
+        map cell_of (values_in kind own l) ≡ map cell_of (values_in kind own m) → AllSame rows
     all-covered own [] is same = tt
     all-covered own (r ∷ rows) is same =
         let (one, others) = and_parts _ (are_covered front kind own rows) is in (

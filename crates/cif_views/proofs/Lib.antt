@@ -22,3 +22,4 @@ pub mod TableRows
 pub mod WeekLines
 pub mod Names
 mod RowNames
+pub mod DifferenceFields

@@ -1,24 +1,26 @@
 -- The rows of a pair go field by field, and two extracts have one list of differences.
 use Rattle.cif_views.proofs.Names.{AreDifferences, AreDifferentRecords, AreDifferentTiplocs, AreRowsOfFields, Bool, ComesBefore, Contains}
-use Rattle.cif_views.proofs.Names.{DifferencesParts, ExtractParts, Field, IsOneWay, IsRowOfField, IsTotalOrder, Left, Less, List, Ordering}
-use Rattle.cif_views.proofs.Names.{Permanent, Right, Side, Sided, TableFields, Terms, Tiploc, Tsv, Two, Window, [], arith, bytes_decides}
+use Rattle.cif_views.proofs.Names.{DifferencesParts, ExtractParts, IsOneWay, IsRowOfField, IsTotalOrder, Left, Less, List, Ordering}
+use Rattle.cif_views.proofs.Names.{Permanent, Right, Side, Sided, TableFields, Terms, Tiploc, Two, Window, [], arith, bytes_decides}
 use Rattle.cif_views.proofs.Names.{differing_row, false, false≢true, from-side, if◌then◌else◌, inl, inr, key_cmp, keys-total, less_one_way}
-use Rattle.cif_views.proofs.Names.{nat_cmp, nat_eq, nat_list_cmp_total, not_less, of_side, pointwise, refl, same_members, shown}
+use Rattle.cif_views.proofs.Names.{nat_cmp, nat_eq, nat_list_cmp_total, not_less, of_side, pointwise, refl, same_members}
 use Rattle.cif_views.proofs.Names.{side-member, slice_cmp, subst, sym, true, ℕ, ◌∙◌, ◌≡◌}
+use Rattle.cif_views.proofs.Names.{◌∷◌}
+use Rattle.cif_views.proofs.RowNames.{Value, cell_of}
 use Rattle.cif_weeks.proofs.UniqueByKey.{unique_same}
 
 -- a field's row, by whether its cells are the same
-module _ (start : List Field) (left right name : List ℕ) (field : List ℕ → Field) where
-  by-test : (test : Bool) → pointwise nat_eq (shown Tsv (field left)) (shown Tsv (field right)) ≡ test →
-      IsRowOfField start left right name field (if test then [] else differing_row start name (field left) (field right))
+module _ (start : List Value) (left right name : List ℕ) (field : List ℕ → Value) where
+  by-test : (test : Bool) → pointwise nat_eq (cell_of (field left)) (cell_of (field right)) ≡ test →
+      IsRowOfField start left right name field (if test then [] else (differing_row start name (field left) (field right) ∷ []))
   by-test true is = record { differs = λ differ. absurd (differ ((bytes_decides _ _).0 is)); same = λ same. refl }
   by-test false is = record { differs = λ differ. refl; same = λ same. absurd (false≢true (sym is ∙ (bytes_decides _ _).1 same)) }
 
-pub rows-of-fields : (start : List Field) (fields : TableFields (List ℕ)) (left right : List ℕ) → AreRowsOfFields start fields left right
+pub rows-of-fields : (start : List Value) (fields : TableFields (List ℕ)) (left right : List ℕ) → AreRowsOfFields start fields left right
 rows-of-fields start fields left right = record {
-  rows = λ f. if pointwise nat_eq (shown Tsv (f.1 left)) (shown Tsv (f.1 right)) then []
-      else differing_row start f.0 (f.1 left) (f.1 right);
-  each = λ f. by-test start left right f.0 f.1 (pointwise nat_eq (shown Tsv (f.1 left)) (shown Tsv (f.1 right))) refl;
+  rows = λ f. if pointwise nat_eq (cell_of (f.1 left)) (cell_of (f.1 right)) then []
+      else (differing_row start f.0 (f.1 left) (f.1 right) ∷ []);
+  each = λ f. by-test start left right f.0 f.1 (pointwise nat_eq (cell_of (f.1 left)) (cell_of (f.1 right))) refl;
   all = refl;
 }
 

@@ -1,16 +1,16 @@
 -- Where a pair of schedules has no row, their bodies are the same; and so it is with associations.
 use Rattle.cif_views.proofs.Names.{AllFit, AllStandIn, AssocBody, AssocKey, At, BodyLines, BodyParts, Bool, Bx, Call, Column, Detail, Each}
 use Rattle.cif_views.proofs.Names.{Extra, IsBody, IsLine, IsTrue, JourneyKind, KeepSomeBody, Left, List, Lo, None, Option, P, Permanent}
-use Rattle.cif_views.proofs.Names.{RecordFits, Row, Some, SpellsRecord, StandsIn, Tsv, Turn, [], and_parts, ap, ap₂, arith}
+use Rattle.cif_views.proofs.Names.{RecordFits, Row, Some, SpellsRecord, StandsIn, Turn, [], and_parts, ap, ap₂, arith}
 use Rattle.cif_views.proofs.Names.{association_columns, association_differences, association_head, association_plain, basic_back}
-use Rattle.cif_views.proofs.Names.{basic_columns, basic_rows, body_records, bytes_decides, call_counts, call_record, category_fields}
+use Rattle.cif_views.proofs.Names.{basic_columns, basic_rows, body_records, bytes_decides, call_record, category_fields}
 use Rattle.cif_views.proofs.Names.{changed, codes, columns, cond, count_of_calls, detail_fields, detail_of, detail_rows, detail_table}
 use Rattle.cif_views.proofs.Names.{differing_rows, drop, each_back, each_front, extra_columns, extra_fields, extra_identity, extra_in}
-use Rattle.cif_views.proofs.Names.{extra_records, false, false≢true, fields_in, further-fit, further-lines, get_or, in_record, is_call}
-use Rattle.cif_views.proofs.Names.{is_extra, journey_differences, journey_kind, journey_records, journeys_behind, kind_in, kind_of_line}
-use Rattle.cif_views.proofs.Names.{length, line-plain_line, map, one_text_value, own_columns, parts_in, place_behind, places_behind}
-use Rattle.cif_views.proofs.Names.{plain_line, record_table, refl, replicate, row, row_fields, same_places, schedule_differences}
-use Rattle.cif_views.proofs.Names.{schedule_head, schedule_plain, shown, stands-front, stands-plain_line, subst, sym, take, trimmed, true}
+use Rattle.cif_views.proofs.Names.{extra_records, false, false≢true, further-fit, further-lines, get_or, in_record, is_call}
+use Rattle.cif_views.proofs.Names.{is_extra, journey_differences, journey_kind, journey_records, kind_in, kind_of_line}
+use Rattle.cif_views.proofs.Names.{length, line-plain_line, map, one_text_value, own_columns, parts_in, row_of_counts, rows_of_journeys}
+use Rattle.cif_views.proofs.Names.{plain_line, record_table, refl, replicate, row, row_values, rows_of_place, rows_of_places, same_places, schedule_differences}
+use Rattle.cif_views.proofs.Names.{schedule_head, schedule_plain, stands-front, stands-plain_line, subst, sym, take, true, values_in}
 use Rattle.cif_views.proofs.Names.{type_fields, without_extra, ℕ, ◌++◌, ◌+◌, ◌<◌, ◌∙◌, ◌∷◌, ◌≡◌}
 use Rattle.cif_columns.specs.Field.{text}
 use Rattle.cif_records.proofs.Details.{one_detail}
@@ -19,9 +19,9 @@ use Rattle.cif_records.specs.Association as aa
 use Rattle.cif_records.specs.declared.{origin.Origin.Origin, record.Record.Record, terminus.Terminus.Terminus}
 use Rattle.cif_records.specs.declared.record.Record.TheVariants as of
 use Rattle.cif_extract.proofs.{Bodies.first_line, PlainTexts.lines_of}
-use Rattle.cif_canon.specs.Fields.{after}
+use Rattle.cif_views.proofs.RowNames.{Value, cell_of, trimmed}
 use Rattle.cif_views.proofs.DifferingCells.{AllSame, all-covered, all-moved, are_covered, both-none, covered, is_there, same-cells}
-use Rattle.cif_views.{proofs.DifferingCells.same-cells_in, proofs.DifferingCells.some-behind, proofs.DifferingFields.same-kind}
+use Rattle.cif_views.{proofs.DifferingCells.same-cells_in, proofs.DifferingFields.same-kind}
 use Rattle.cif_views.{proofs.PairedJourneys.journeys-by-lines, specs.DifferenceTable.journey_of}
 use Rattle.cif_views.specs.declared.columns.JourneyKind.TheVariants as kinds_of
 
@@ -39,14 +39,14 @@ ArePlaces (r ∷ rs) = IsPlace r × ArePlaces rs
 
 -- ---- one place of two journeys
 
-module _ (begun : List ℕ) (call : ℕ) (l m : List ℕ) (left : IsLine l) (right : IsLine m)
-    (place : columns 1 10 l ≡ columns 1 10 m) (none : place_behind begun call (kind_of_line l) l m ≡ []) where
+module _ (head : List Value) (call : ℕ) (l m : List ℕ) (left : IsLine l) (right : IsLine m)
+    (place : columns 1 10 l ≡ columns 1 10 m) (none : rows_of_place head call (kind_of_line l) l m ≡ []) where
   -- where the cells of all fields that a line of a kind has cover a record of the kind, what the other line spells this one does
   by-cells : (kind : JourneyKind) (r : Record) → kind_of_line m ≡ kind →
       IsTrue (are_covered 10 kind (own_columns kind) (record_table r)) → AllSame l m (record_table r)
   by-cells kind r is covered =
       all-covered l m 10 kind place left right (own_columns kind) (record_table r) covered
-      (subst (λ k. map (shown Tsv) (fields_in k (own_columns k) l) ≡ map (shown Tsv) (fields_in k (own_columns k) m))
+      (subst (λ k. map cell_of (values_in k (own_columns k) l) ≡ map cell_of (values_in k (own_columns k) m))
       (sym (same-kind l m place) ∙ is) (same-cells_in _ (kind_of_line l) l m (own_columns (kind_of_line l)) none))
 
   same-place : (r : Record) → IsPlace r → SpellsRecord m r → AllSame l m (record_table r)
@@ -59,10 +59,10 @@ module _ (begun : List ℕ) (call : ℕ) (l m : List ℕ) (left : IsLine l) (rig
 
 -- ---- two journeys
 
-module _ (begun : List ℕ) where
+module _ (head : List Value) where
   same-journeys : (call : ℕ) (rs qs : List Record) → ArePlaces qs → Each RecordFits rs →
       Each RecordFits qs → IsTrue (same_places (lines_of rs) (lines_of qs)) →
-      places_behind begun call (lines_of rs) (lines_of qs) ≡ [] → lines_of rs ≡ lines_of qs
+      rows_of_places head call (lines_of rs) (lines_of qs) ≡ [] → lines_of rs ≡ lines_of qs
   same-journeys call [] [] are one other places none = refl
   same-journeys call [] (q ∷ qs) are one other places none = absurd (false≢true places)
   same-journeys call (r ∷ rs) [] are one other places none = absurd (false≢true places)
@@ -72,13 +72,13 @@ module _ (begun : List ℕ) where
       let (first, later) = and_parts _ _ places in
       let place = (bytes_decides (columns 1 10 l) (columns 1 10 m)).0 first in
       let next = cond (is_call (kind_of_line l)) (call + 1) call in
-      let (here, behind) = both-none (place_behind begun call (kind_of_line l) l m)
-      (places_behind begun next (lines_of rs) (lines_of qs)) none in
+      let (here, behind) = both-none (rows_of_place head call (kind_of_line l) l m)
+      (rows_of_places head next (lines_of rs) (lines_of qs)) none in
       let left = records.line r one.0 in
       let right = records.line q other.0 in
       let spelled = records.spells q other.0 in
       let same = records.one_record l r q (records.spells r one.0)
-      (all-moved l m (record_table q) (same-place begun call l m left right place here q are.0 spelled) spelled) in
+      (all-moved l m (record_table q) (same-place head call l m left right place here q are.0 spelled) spelled) in
       ap₂ (λ (line : List ℕ) (lines : List (List ℕ)). line ∷ lines) (ap (λ (p : Record). plain_line (record_table p)) same)
       (same-journeys next rs qs are.1 one.1 other.1 later behind)
 
@@ -94,9 +94,9 @@ are-places o calls t = (tt, are-behind calls t)
 -- ---- two bodies
 
 -- two journeys without a row have the same places
-told-places : (same : Bool) (rows row : List ℕ) → cond same rows row ≡ [] → 0 < length row → IsTrue same × (rows ≡ [])
-told-places true rows row none some = (refl, none)
-told-places false rows row none some = absurd (let long = ap length none in omega (arith, some, long))
+told-places : {R : Type 0} (same : Bool) (rows : List R) (row : R) → cond same rows (row ∷ []) ≡ [] → IsTrue same × (rows ≡ [])
+told-places true rows row none = (refl, none)
+told-places false rows row none = absurd (let long = ap length none in omega (arith, long))
 
 -- ---- the BX of a schedule
 
@@ -139,7 +139,7 @@ abbrev identity_of_extra : List ℕ → List ℕ
 identity_of_extra line = trimmed (columns 1 2 line)
 
 abbrev extra_cells : List ℕ → List (List ℕ)
-extra_cells line = map (shown Tsv) (row_fields extra_fields line)
+extra_cells line = map cell_of (row_values extra_fields line)
 
 -- one BX and none are shown as two
 shown-extra : (e : Extra) → AllFit (record_table (of.Extra e)) →
@@ -234,8 +234,8 @@ same-lines a b one other detail further =
     by-first (line ∷ lines) some = refl
 
 module _ (e g : List ℕ × Permanent BodyLines) (one : FitsLines e) (other : FitsLines g) where
-  same-detail : map (shown Tsv) (row_fields detail_fields (plain_line (basic_line e)))
-      ≡ map (shown Tsv) (row_fields detail_fields (plain_line (basic_line g))) → detail_of e.1.body ≡ detail_of g.1.body
+  same-detail : map cell_of (row_values detail_fields (plain_line (basic_line e)))
+      ≡ map cell_of (row_values detail_fields (plain_line (basic_line g))) → detail_of e.1.body ≡ detail_of g.1.body
   same-detail same =
       let l = plain_line (basic_line e) in
       let m = plain_line (basic_line g) in
@@ -272,14 +272,12 @@ module _ (e g : List ℕ × Permanent BodyLines) (one : FitsLines e) (other : Fi
       (ap extra_cells (sym a.extra_is) ∙ same-cells behind x y extra_fields no_extra ∙ ap extra_cells b.extra_is) in
       let rs = journey_in_body e one in
       let qs = journey_in_body g other in
-      let begun = after Tsv head in
-      let by_lines : journeys_behind begun (lines_of rs) (lines_of qs) ≡ [] =
-      ap₂ (journeys_behind begun) (sym a.journey_is) (sym b.journey_is)
-      ∙ sym (journeys-by-lines changed (drop 1 head) begun refl (without_extra s.further) (without_extra t.further)) ∙ no_journey in
-      let (places, rows) = told-places (same_places (lines_of rs) (lines_of qs)) (places_behind begun 1 (lines_of rs) (lines_of qs))
-      _ by_lines
-      (some-behind begun (call_counts (count_of_calls (lines_of rs)) (count_of_calls (lines_of qs)))) in
-      let lines = same-journeys begun 1 rs qs (are-places q.origin q.calls q.terminus) (journey-fits e one) (journey-fits g other)
+      let by_lines : rows_of_journeys head (lines_of rs) (lines_of qs) ≡ [] =
+      ap₂ (rows_of_journeys head) (sym a.journey_is) (sym b.journey_is)
+      ∙ journeys-by-lines head (without_extra s.further) (without_extra t.further) ∙ no_journey in
+      let (places, rows) = told-places (same_places (lines_of rs) (lines_of qs)) (rows_of_places head 1 (lines_of rs) (lines_of qs))
+      (row_of_counts head (count_of_calls (lines_of rs)) (count_of_calls (lines_of qs))) by_lines in
+      let lines = same-journeys head 1 rs qs (are-places q.origin q.calls q.terminus) (journey-fits e one) (journey-fits g other)
       places rows in
       same-lines e.1.body g.1.body one.body.keep other.body.keep detail_is
       (further-of e one ∙ (λ i. behind_extra (extra_is i) (lines i)) ∙ sym (further-of g other))

@@ -1,96 +1,79 @@
--- The text of rows tells their cells, in which there is no tab and no line feed, and these tell the plain lines.
+-- The text of rows tells their cells, and these tell the plain lines.
 use Rattle.cif_views.proofs.Names.{All, All-cons, All-drop, All-head, All-nil, All-tail, All-take, AllFit, ArePrintable, Bool, Column}
-use Rattle.cif_views.proofs.Names.{FieldPlace, IsLine, IsPrintable, IsTrue, JourneyKind, List, Other, Row, TableFields, Tsv, [], and_parts}
+use Rattle.cif_views.proofs.Names.{FieldPlace, IsLine, IsPrintable, IsTrue, JourneyKind, List, Other, Row, TableFields, [], and_parts}
 use Rattle.cif_views.proofs.Names.{ap, append_assoc, ap₂, are_within, arith, bytes_decides, codes, columns, decimal, decimal_is_IsNumeral}
-use Rattle.cif_views.proofs.Names.{drop, drop_at, eqb-true, false, false≢true, fields_in, flat_map, is_span, is_whole_from, is_within}
-use Rattle.cif_views.proofs.Names.{leb-true, length, length-append, length-columns, length-map, line-plain_line, map, nat_eq, nat_le}
-use Rattle.cif_views.proofs.Names.{or_cases, plain_columns, plain_line, pointwise, printable-date, refl, row_fields, row_line, shown}
-use Rattle.cif_views.proofs.Names.{span_in, subst, suc, sym, take, take-append_seam, true, used, width_of, yymmdd_from, zero, ℕ, ⊎_elim}
-use Rattle.cif_views.proofs.Names.{◌&&◌, ◌++◌, ◌+◌, ◌-◌, ◌<◌, ◌^◌, ◌||◌, ◌∙◌, ◌∷◌, ◌≡◌}
-use Rattle.std.{proofs.lemmas.Str.Parse.digit_from_value, specs.List.join_with_byte, specs.Str.Parse.AllDigits}
+use Rattle.cif_views.proofs.Names.{drop, drop_at, eqb-true, false, false≢true, flat_map, is_span, is_whole_from, is_within}
+use Rattle.cif_views.proofs.Names.{leb-true, length, length-append, length-columns, length-map, line-plain_line, map, names, nat_eq, nat_le}
+use Rattle.cif_views.proofs.Names.{or_cases, plain_columns, plain_line, pointwise, refl, row_of, row_values, span_in, subst, suc, sym, take}
+use Rattle.cif_views.proofs.Names.{take-append_seam, true, used, value_in, values_in, width_of, yymmdd_from, zero, ℕ, ⊎_elim, ◌&&◌, ◌++◌, ◌+◌, ◌-◌}
+use Rattle.cif_views.proofs.Names.{◌<◌, ◌^◌, ◌||◌, ◌∙◌, ◌∷◌, ◌≡◌, ◌≢◌}
+use Rattle.std.{proofs.lemmas.Str.Parse.digit_from_value, specs.Str.Parse.AllDigits}
 use Rattle.cif_columns.proofs.Parts.{length-plain_columns, whole-first}
+use Rattle.cif_rows.proofs.RowTexts.{AreSaid, IsSaidField, cell_in, first-row, row-filled}
+use Rattle.cif_rows.specs.Row.{IsDigit, IsSaid}
+use Rattle.cif_views.proofs.RowNames.{Field, Format, Text, Value, cell_of, named, number, printable-date, row_text}
 use Rattle.cif_views.{proofs.DifferingCells.covered, proofs.DifferingCells.is_among, specs.Steps.Columns.shown_at}
 use Rattle.cif_views.specs.declared.columns.FieldPlace.TheVariants as place
 
--- ---- a text, cut at bytes that no cell has
-
-cut : (byte : ℕ) → byte < 32 → (a b s t : List ℕ) → ArePrintable a → ArePrintable b → a ++ (byte ∷ s) ≡ b ++ (byte ∷ t) → (a ≡ b) × (s ≡ t)
-cut byte low [] [] s t one other same = (refl, ap (drop 1) same)
-cut byte low [] (y ∷ b) s t one other same =
-    let first = (All-head IsPrintable y b other).0 in
-    let is : byte ≡ y = cc in
-    absurd (omega (arith, low, first, is))
-cut byte low (x ∷ a) [] s t one other same =
-    let first = (All-head IsPrintable x a one).0 in
-    let is : x ≡ byte = cc in
-    absurd (omega (arith, low, first, is))
-cut byte low (x ∷ a) (y ∷ b) s t one other same =
-    let rest = cut byte low a b s t (All-tail IsPrintable x a one) (All-tail IsPrintable y b other) (ap (drop 1) same) in
-    let first : x ≡ y = cc in
-    ((λ i. first i ∷ rest.0 i), rest.1)
-
--- a cell has printable bytes alone
-abbrev pub AreCells : List (List ℕ) → Type 0
-AreCells cells = All ArePrintable cells
-
--- cells with a tab between them, and a line feed behind them
-cut-row : (cs ds : List (List ℕ)) (s t : List ℕ) → length cs ≡ length ds → 0 < length cs → AreCells cs → AreCells ds →
-    join_with_byte 9 cs ++ (10 ∷ s) ≡ join_with_byte 9 ds ++ (10 ∷ t) → (cs ≡ ds) × (s ≡ t)
-cut-row [] ds s t long some one other same = absurd (omega (arith, some))
-cut-row (c ∷ cs) [] s t long some one other same = absurd (omega (arith, long))
-cut-row (c ∷ []) (d ∷ []) s t long some one other same =
-    let here = cut 10 (omega arith) c d s t (All-head ArePrintable c [] one) (All-head ArePrintable d [] other) same in
-    ((λ i. here.0 i ∷ []), here.1)
-cut-row (c ∷ []) (d ∷ f ∷ ds) s t long some one other same = absurd (omega (arith, long))
-cut-row (c ∷ e ∷ cs) (d ∷ []) s t long some one other same = absurd (omega (arith, long))
-cut-row (c ∷ e ∷ cs) (d ∷ f ∷ ds) s t long some one other same =
-    let l = join_with_byte 9 (e ∷ cs) in
-    let m = join_with_byte 9 (f ∷ ds) in
-    let here = cut 9 (omega arith) c d (l ++ (10 ∷ s)) (m ++ (10 ∷ t)) (All-head ArePrintable c (e ∷ cs) one)
-    (All-head ArePrintable d (f ∷ ds) other)
-    (sym (append_assoc c (9 ∷ l) (10 ∷ s)) ∙ same ∙ append_assoc d (9 ∷ m) (10 ∷ t)) in
-    let rest = cut-row (e ∷ cs) (f ∷ ds) s t (omega (arith, long)) (omega arith) (All-tail ArePrintable c (e ∷ cs) one)
-    (All-tail ArePrintable d (f ∷ ds) other) here.1 in
-    ((λ i. here.0 i ∷ rest.0 i), rest.1)
-
 -- ---- rows
 
--- the cells of a row
+-- what stands in a row, and the cells of a row
+abbrev pub AreValues : List Value → Type 0
+AreValues values = All IsSaid values
+
 abbrev pub cells_of : {Row : Type 0} → TableFields Row → Row → List (List ℕ)
-cells_of fields row = map (shown Tsv) (row_fields fields row)
+cells_of fields row = map cell_of (row_values fields row)
+
+module _ {Row : Type 0} (r : Row) where
+  said-row : (fields : TableFields Row) → AreValues (row_values fields r) → AreSaid (row_of fields r)
+  said-row [] all = All-nil IsSaidField
+  said-row (f ∷ fields) all =
+      All-cons IsSaidField (named f.0 (f.1 r)) (row_of fields r) (All-head IsSaid (f.1 r) (row_values fields r) all)
+      (said-row fields (All-tail IsSaid (f.1 r) (row_values fields r) all))
+
+  cells-row : (fields : TableFields Row) → map cell_in (row_of fields r) ≡ cells_of fields r
+  cells-row [] = refl
+  cells-row (f ∷ fields) = ap (λ (cells : List (List ℕ)). cell_of (f.1 r) ∷ cells) (cells-row fields)
+
+  names-row : (fields : TableFields Row) → map (λ f. f.name) (row_of fields r) ≡ names fields
+  names-row [] = refl
+  names-row (f ∷ fields) = ap (λ (ns : List (List ℕ)). f.0 ∷ ns) (names-row fields)
+
+-- a row is some text
+filled : (format : Format) (row : List Field) (s : List ℕ) → 0 < length (row_text format row ++ s)
+filled format row s =
+    let long = length-append (row_text format row) s in
+    let some = row-filled format row in
+    omega (arith, long, some)
 
 -- where rows are the same if their cells are, they are if their texts are
-module _ {Row : Type 0} (fields : TableFields Row) (Is : Row → Type 0) (some : 0 < length fields)
-    (are : (r : Row) → Is r → AreCells (cells_of fields r))
+module _ (format : Format) (not : format ≢ Text) {Row : Type 0} (fields : TableFields Row) (Is : Row → Type 0) (some : 0 < length fields)
+    (are : (r : Row) → Is r → AreValues (row_values fields r))
     (same : (r q : Row) → Is r → Is q → cells_of fields r ≡ cells_of fields q → r ≡ q) where
-  cell-count : (r : Row) → length (cells_of fields r) ≡ length fields
-  cell-count r = length-map (row_fields fields r) (shown Tsv) ∙ length-map fields (λ f. f.1 r)
+  first-row_of : (r q : Row) (s t : List ℕ) → Is r → Is q → row_text format (row_of fields r) ++ s ≡ row_text format (row_of fields q) ++ t →
+      (r ≡ q) × (s ≡ t)
+  first-row_of r q s t one other is =
+      let long = length-map fields (λ f. named f.0 (f.1 r)) in
+      let here = first-row format not (row_of fields r) (row_of fields q) s t (names-row r fields ∙ sym (names-row q fields))
+      (said-row r fields (are r one)) (said-row q fields (are q other)) (omega (arith, long, some)) is in
+      (same r q one other (sym (cells-row r fields) ∙ here.0 ∙ cells-row q fields), here.1)
 
-  first-row : (r q : Row) (s t : List ℕ) → Is r → Is q → row_line fields r ++ s ≡ row_line fields q ++ t → (r ≡ q) × (s ≡ t)
-  first-row r q s t one other is =
-      let cs = cells_of fields r in
-      let ds = cells_of fields q in
-      let n = cell-count r in
-      let k = cell-count q in
-      let cut_here = cut-row cs ds s t (n ∙ sym k) (omega (arith, n, some)) (are r one) (are q other)
-      (sym (append_assoc (join_with_byte 9 cs) (10 ∷ []) s) ∙ is ∙ append_assoc (join_with_byte 9 ds) (10 ∷ []) t) in
-      (same r q one other cut_here.0, cut_here.1)
+  pub same-row : (r q : Row) → Is r → Is q → flat_map (row_text format) (row_of fields r ∷ []) ≡ flat_map (row_text format) (row_of fields q ∷ []) →
+      r ≡ q
+  same-row r q one other is = (first-row_of r q [] [] one other is).0
 
-  pub same-row : (r q : Row) → Is r → Is q → row_line fields r ≡ row_line fields q → r ≡ q
-  same-row r q one other is = (first-row r q [] [] one other (ap (λ (l : List ℕ). l ++ []) is)).0
-
-  filled : (r : Row) (s : List ℕ) → 0 < length (row_line fields r ++ s)
-  filled r s = omega (arith, length-append (row_line fields r) s, length-append (join_with_byte 9 (cells_of fields r)) (codes "\n"))
-
-  pub same-rows : (rs qs : List Row) → All Is rs → All Is qs → flat_map (row_line fields) rs ≡ flat_map (row_line fields) qs → rs ≡ qs
+  pub same-rows : (rs qs : List Row) → All Is rs → All Is qs →
+      flat_map (row_text format) (map (row_of fields) rs) ≡ flat_map (row_text format) (map (row_of fields) qs) → rs ≡ qs
   same-rows [] [] one other is = refl
   same-rows [] (q ∷ qs) one other is =
-      let long = ap length is in absurd (omega (arith, long, filled q (flat_map (row_line fields) qs)))
+      let long = ap length is in
+      let more = filled format (row_of fields q) (flat_map (row_text format) (map (row_of fields) qs)) in absurd (omega (arith, long, more))
   same-rows (r ∷ rs) [] one other is =
-      let long = ap length is in absurd (omega (arith, long, filled r (flat_map (row_line fields) rs)))
+      let long = ap length is in
+      let more = filled format (row_of fields r) (flat_map (row_text format) (map (row_of fields) rs)) in absurd (omega (arith, long, more))
   same-rows (r ∷ rs) (q ∷ qs) one other is =
-      let here = first-row r q (flat_map (row_line fields) rs) (flat_map (row_line fields) qs) (All-head Is r rs one)
-      (All-head Is q qs other) is in
+      let here = first-row_of r q (flat_map (row_text format) (map (row_of fields) rs)) (flat_map (row_text format) (map (row_of fields) qs))
+      (All-head Is r rs one) (All-head Is q qs other) is in
       (λ i. here.0 i ∷ same-rows rs qs (All-tail Is r rs one) (All-tail Is q qs other) here.1 i)
 
 -- ---- what stands in a line makes cells
@@ -120,7 +103,7 @@ module _ (line : List ℕ) (is : IsLine line) where
       length-columns from to line is (leb-true 1 from begin) (omega (arith, last)) (leb-true to 80 end) ∙ omega (arith, last)
 
   cell : (kind : JourneyKind) (at : FieldPlace) → IsTrue (is_within at) → (there : List ℕ) →
-      there ≡ columns (span_in kind at).0 (span_in kind at).1 line → ArePrintable there → ArePrintable (shown Tsv (shown_at at there))
+      there ≡ columns (span_in kind at).0 (span_in kind at).1 line → ArePrintable there → IsSaid (shown_at at there)
   cell kind (place.Text _ _) within there e all = All-take IsPrintable (used there) there all
   cell kind place.Nowhere within there e all = All-take IsPrintable (used there) there all
   cell kind (place.Call _ _ _) within there e all = All-take IsPrintable (used there) there all
@@ -129,29 +112,29 @@ module _ (line : List ℕ) (is : IsLine line) where
   cell kind (place.DayFirst from to) within there e all =
       printable-date (yymmdd_from there) refl (year-first there (ap length e ∙ six-columns from to within) all)
 
-  pub are-cells : (kind : JourneyKind) (own : List Column) → IsTrue (are_within own) → AreCells (map (shown Tsv) (fields_in kind own line))
-  are-cells kind [] within = All-nil ArePrintable
-  are-cells kind (c ∷ own) within =
+  pub are-values : (kind : JourneyKind) (own : List Column) → IsTrue (are_within own) → AreValues (values_in kind own line)
+  are-values kind [] within = All-nil IsSaid
+  are-values kind (c ∷ own) within =
       let (first, rest) = and_parts (is_within c.1) (are_within own) within in
       let span = span_in kind c.1 in
-      All-cons ArePrintable _ (map (shown Tsv) (fields_in kind own line))
-      (cell kind c.1 first (columns span.0 span.1 line) refl (columns-printable span.0 span.1 line is)) (are-cells kind own rest)
+      All-cons IsSaid (value_in kind line c.1) (values_in kind own line)
+      (cell kind c.1 first (columns span.0 span.1 line) refl (columns-printable span.0 span.1 line is)) (are-values kind own rest)
 
 -- so does a number
-digits-printable : (ds : List ℕ) → AllDigits 10 ds → ArePrintable ds
-digits-printable [] all = All-nil IsPrintable
-digits-printable (d ∷ ds) all =
+digits-said : (ds : List ℕ) → AllDigits 10 ds → All IsDigit ds
+digits-said [] all = All-nil IsDigit
+digits-said (d ∷ ds) all =
     let digit = digit_from_value d all.0 in
-    All-cons IsPrintable d ds (omega (arith, digit), omega (arith, digit)) (digits-printable ds all.1)
+    All-cons IsDigit d ds (omega (arith, digit), omega (arith, digit)) (digits-said ds all.1)
 
-pub number-printable : (n : ℕ) → n < 2 ^ 64 → ArePrintable (decimal n)
-number-printable n few = digits-printable (decimal n) (decimal_is_IsNumeral n few).0.1
+pub number-said : (n : ℕ) → n < 2 ^ 64 → IsSaid (number n)
+number-said n few = digits-said (decimal n) (decimal_is_IsNumeral n few).0.1
 
 -- ---- cells tell plain lines
 
 -- the cells of a line's fields
 abbrev pub cells_in : List Column → List ℕ → List (List ℕ)
-cells_in own line = map (shown Tsv) (fields_in Other own line)
+cells_in own line = map cell_of (values_in Other own line)
 
 -- in each row's columns of the line stand the plain columns of its value
 abbrev AllPlain : List ℕ → List Row → Type 0
@@ -226,17 +209,20 @@ module _ {X : Type 0} (table : X → List Row) (own : List Column) (whole : (x :
       ∙ sym q.is
 
   -- so they are where their rows are, in a table whose fields have these columns
-  module _ (fields : TableFields (List ℕ)) (cells : (line : List ℕ) → cells_of fields line ≡ cells_in own line)
+  module _ (format : Format) (not : format ≢ Text) (fields : TableFields (List ℕ))
+      (values : (line : List ℕ) → row_values fields line ≡ values_in Other own line)
       (within : IsTrue (are_within own)) (some : 0 < length fields) where
-    plain-cells : (line : List ℕ) → IsPlain table line → AreCells (cells_of fields line)
-    plain-cells line p = subst AreCells (sym (cells line)) (are-cells line (is-line line p) Other own within)
+    plain-values : (line : List ℕ) → IsPlain table line → AreValues (row_values fields line)
+    plain-values line p = subst AreValues (sym (values line)) (are-values line (is-line line p) Other own within)
 
     one-plain : (l m : List ℕ) → IsPlain table l → IsPlain table m → cells_of fields l ≡ cells_of fields m → l ≡ m
-    one-plain l m p q same = one-line l m p q (sym (cells l) ∙ same ∙ cells m)
+    one-plain l m p q same =
+        one-line l m p q (ap (map cell_of) (sym (values l)) ∙ same ∙ ap (map cell_of) (values m))
 
-    pub same-plain_row : (l m : List ℕ) → IsPlain table l → IsPlain table m → row_line fields l ≡ row_line fields m → l ≡ m
-    same-plain_row = same-row fields (IsPlain table) some plain-cells one-plain
+    pub same-plain_row : (l m : List ℕ) → IsPlain table l → IsPlain table m →
+        flat_map (row_text format) (row_of fields l ∷ []) ≡ flat_map (row_text format) (row_of fields m ∷ []) → l ≡ m
+    same-plain_row = same-row format not fields (IsPlain table) some plain-values one-plain
 
     pub same-plain_rows : (ls ms : List (List ℕ)) → All (IsPlain table) ls → All (IsPlain table) ms →
-        flat_map (row_line fields) ls ≡ flat_map (row_line fields) ms → ls ≡ ms
-    same-plain_rows = same-rows fields (IsPlain table) some plain-cells one-plain
+        flat_map (row_text format) (map (row_of fields) ls) ≡ flat_map (row_text format) (map (row_of fields) ms) → ls ≡ ms
+    same-plain_rows = same-rows format not fields (IsPlain table) some plain-values one-plain

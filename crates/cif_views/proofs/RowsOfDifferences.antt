@@ -6,8 +6,8 @@ use Rattle.cif_views.proofs.Names.{HaveRows, IfSome, IsAccepted, IsAlignedTwo, I
 use Rattle.cif_views.proofs.Names.{Ordering, Permanent, Right, RunsOn, Schedule, ScheduleFits, ScheduleLines, Side, Sided, Some, Terms, Two}
 use Rattle.cif_views.proofs.Names.{Window, [], ap, arith, association_differences, association_entries, association_entry, association_head}
 use Rattle.cif_views.proofs.Names.{association_lines, association_plain, associations-by_pairs, at_side, basic_rows, by_pairs, change_of}
-use Rattle.cif_views.proofs.Names.{contents_of, detail_of, difference_names, difference_table, flat_map, header_window, key_cmp, length}
-use Rattle.cif_views.proofs.Names.{length-append, listed_as, map, names_line, nat_cmp, nil_from_length, of_key, of_side, option_map}
+use Rattle.cif_views.proofs.Names.{contents_of, detail_of, difference_rows, flat_map, header_window, key_cmp, length}
+use Rattle.cif_views.proofs.Names.{listed_as, map, nat_cmp, of_key, of_side, option_map}
 use Rattle.cif_views.proofs.Names.{parts_of, refl, replicate, schedule_differences, schedule_entries, schedule_entry, schedule_head}
 use Rattle.cif_views.proofs.Names.{schedule_lines, schedule_plain, schedules-by_pairs, side-member, slice_cmp, spelled-fits, subst, sym}
 use Rattle.cif_views.proofs.Names.{tiploc_head, tiploc_lines, tiploc_row, weekday_of, ℕ, ⊎_elim, ◌++◌, ◌<◌, ◌↔◌, ◌∙◌, ◌∷◌, ◌≡◌, ◌≤◌}
@@ -15,8 +15,9 @@ use Rattle.cif_records.proofs.Headers as headers
 use Rattle.cif_records.specs.Association as aa
 use Rattle.cif_weeks.specs.Applies.{Applies}
 use Rattle.cif_canon.proofs.MadeFits.{HasTerms, have-terms, permanent-association, permanent-basic}
-use Rattle.cif_canon.{specs.Fields.nothing, specs.declared.asked.Asked.Asked}
-use Rattle.cif_views.proofs.DifferingCells.{both-none, some-row}
+use Rattle.cif_canon.specs.declared.asked.Asked.{Asked}
+use Rattle.cif_views.proofs.DifferingCells.{both-none}
+use Rattle.cif_views.proofs.RowNames.{Value}
 use Rattle.cif_views.proofs.PairedBodies.{FitsLines, association_line, same-association, same-body}
 
 -- ---- elements
@@ -46,11 +47,11 @@ map-none : {A B : Type 0} (f : A → B) (xs : List A) → map f xs ≡ [] → xs
 map-none f [] none = refl
 map-none f (x ∷ xs) none = absurd (let long = ap length none in omega (arith, long))
 
-some-if : (xs : List ℕ) → (xs ≡ [] → ⊥) → 0 < length xs
+some-if : {R : Type 0} (xs : List R) → (xs ≡ [] → ⊥) → 0 < length xs
 some-if [] h = absurd (h refl)
 some-if (x ∷ xs) h = omega arith
 
-none-listed : {A : Type 0} (text : A → List ℕ) (items : List A) → ((a : A) → Contains items a → 0 < length (text a)) →
+none-listed : {A R : Type 0} (text : A → List R) (items : List A) → ((a : A) → Contains items a → 0 < length (text a)) →
     flat_map text items ≡ [] → items ≡ []
 none-listed text [] some none = refl
 none-listed text (a ∷ items) some none =
@@ -101,7 +102,7 @@ module _ {K B : Type 0} (cmp : K → K → Ordering) (window : Window) (xs ys : 
   -- ---- so each that is listed has a row
 
   module _ (listed : List (Listed (K × Permanent B))) (by : AreByPairs found listed) (Fits : K × Permanent B → Type 0)
-      (rows : Listed (K × Permanent B) → List ℕ) (fits : (side : Side) (e : K × Permanent B) → Contains (of_side side found) e → Fits e)
+      (rows : Listed (K × Permanent B) → List (List Value)) (fits : (side : Side) (e : K × Permanent B) → Contains (of_side side found) e → Fits e)
       (alone : (s : Sided (K × Permanent B)) → 0 < length (rows (s, None)))
       (same : (s : Sided (K × Permanent B)) (r : K × Permanent B) → Fits s.it → Fits r → rows (s, Some r) ≡ [] → s.it.1.body ≡ r.1.body)
     where
@@ -212,7 +213,7 @@ module _ (x y : ExtractParts) (d : DifferencesParts) (a : FitLists x) (b : FitLi
       has-row key_cmp window (association_entries x.associations) (association_entries y.associations) d.associations are.associations
       associations_listed (associations-by_pairs x y d are) (λ e. AllFit (association_line e))
       (λ l. association_differences (listed_as association_plain l)) association-lines-fit
-      (λ s. some-row (association_head (change_of s.side) (association_plain s.it) ++ replicate 6 nothing))
+      (λ s. omega arith)
       (λ s r one other none. same-association s.it r one other none)
 
   schedule-row : (l : Listed (List ℕ × Permanent BodyLines)) → Contains schedules_listed l →
@@ -221,12 +222,11 @@ module _ (x y : ExtractParts) (d : DifferencesParts) (a : FitLists x) (b : FitLi
       has-row (slice_cmp nat_cmp) window (schedule_entries x.schedules) (schedule_entries y.schedules) d.schedules are.schedules
       schedules_listed (schedules-by_pairs x y d are) FitsLines
       (λ l. schedule_differences (listed_as schedule_plain l)) schedule-lines-fit
-      (λ s. some-row (schedule_head (change_of s.side) (schedule_plain s.it).basic ++ replicate 6 nothing))
+      (λ s. omega arith)
       (λ s r one other none. same-body s.it r one other none)
 
   rows-are : HaveRows d
   rows-are = record {
-    tiplocs = λ s h. some-row (tiploc_head (change_of s.side) s.it ++ replicate 6 nothing);
     associations = λ l h.
         let found = from-map (listed_as association_plain) associations_listed l h in
         subst (λ (k : Listed (List ℕ)). HasRow (association_differences k)) found.is (association-row found.it found.there);
@@ -236,19 +236,15 @@ module _ (x y : ExtractParts) (d : DifferencesParts) (a : FitLists x) (b : FitLi
   }
 
   -- where no row is, nothing is listed
-  no-row : difference_table d ≡ names_line difference_names → AreNone d
-  unfolding difference_table
-  no-row same =
-      let locations = flat_map tiploc_row (tiploc_lines d) in
+  no-row : difference_rows d ≡ [] → AreNone d
+  no-row none =
+      let locations = map tiploc_row (tiploc_lines d) in
       let associations = flat_map association_differences (association_lines d) in
       let schedules = flat_map schedule_differences (schedule_lines d) in
-      let long = ap length same in
-      let rest = length-append (names_line difference_names) (locations ++ (associations ++ schedules)) in
-      let none = nil_from_length (locations ++ (associations ++ schedules)) (omega (arith, long, rest)) in
       let (one, more) = both-none locations (associations ++ schedules) none in
       let (two, three) = both-none associations schedules more in
       record {
-        tiplocs = map-none _ d.tiplocs (none-listed tiploc_row (tiploc_lines d) rows-are.tiplocs one);
+        tiplocs = map-none _ d.tiplocs (map-none tiploc_row (tiploc_lines d) one);
         associations = sym (associations-by_pairs x y d are).parts ∙ ap (flat_map parts_of)
             (map-none (listed_as association_plain) associations_listed
             (none-listed association_differences (association_lines d) rows-are.associations two));
@@ -258,8 +254,7 @@ module _ (x y : ExtractParts) (d : DifferencesParts) (a : FitLists x) (b : FitLi
       }
 
 -- and where nothing is listed, no row is
-row-of_none : (d : DifferencesParts) → AreNone d → difference_table d ≡ names_line difference_names
-unfolding difference_table
+row-of_none : (d : DifferencesParts) → AreNone d → difference_rows d ≡ []
 row-of_none d none = rw (none.tiplocs, none.associations, none.schedules) refl
 
 module _ (asked other : Asked) (left right : List ℕ) (x y : ExtractParts) (d : DifferencesParts) (one : IsAccepted asked x left)
@@ -267,5 +262,5 @@ module _ (asked other : Asked) (left right : List ℕ) (x y : ExtractParts) (d :
   pub have-rows : HaveRows d
   have-rows = rows-are x y d (accepted-fits asked left x one) (accepted-fits other right y two) are
 
-  pub no-row_for-none : (difference_table d ≡ names_line difference_names) ↔ AreNone d
+  pub no-row_for-none : (difference_rows d ≡ []) ↔ AreNone d
   no-row_for-none = (no-row x y d (accepted-fits asked left x one) (accepted-fits other right y two) are, row-of_none d)

@@ -1,16 +1,18 @@
 -- The rows of calls and of changes tell the lines of each journey, and where a change stands among the calls.
-use Rattle.cif_views.proofs.Names.{All, All-cons, All-filter, All-head, All-nil, All-tail, AllFit, ArePrintable, Bool, Field, IsLine}
-use Rattle.cif_views.proofs.Names.{IsTrue, JourneyKind, List, Numbered, Other, Some, SpellsRecord, TableFields, Tsv, [], ap, are_within}
+use Rattle.cif_views.proofs.Names.{All, All-cons, All-filter, All-head, All-nil, All-tail, AllFit, Bool, IsLine}
+use Rattle.cif_views.proofs.Names.{IsTrue, JourneyKind, List, Numbered, Other, Some, SpellsRecord, TableFields, [], ap, are_within}
 use Rattle.cif_views.proofs.Names.{arith, call_columns, call_fields, change_fields, codes, columns, cond, decimal, decimal_injective, drop}
-use Rattle.cif_views.proofs.Names.{false, false≢true, fields_in, filter, find, get_or, has_row, is_call, is_change, is_identity}
-use Rattle.cif_views.proofs.Names.{journey_columns, journey_kind, kind_of_line, kinds, length, map, not, number, numbered_from, plain_line}
-use Rattle.cif_views.proofs.Names.{record_table, refl, shown, subst, sym, take, true, ℕ, ◌++◌, ◌+◌, ◌-◌, ◌^◌, ◌∙◌, ◌∷◌, ◌≡◌, ◌≤◌}
+use Rattle.cif_views.proofs.Names.{false, false≢true, filter, find, get_or, has_row, is_call, is_change, is_identity}
+use Rattle.cif_views.proofs.Names.{journey_columns, journey_kind, kind_of_line, kinds, length, map, not, numbered_from, plain_line}
+use Rattle.cif_views.proofs.Names.{record_table, refl, row_values, subst, sym, take, true, values_in, ℕ, ◌++◌, ◌+◌, ◌-◌, ◌^◌, ◌∙◌, ◌∷◌, ◌≡◌, ◌≤◌}
 use Rattle.cif_records.proofs.Records as records
 use Rattle.cif_records.specs.declared.record.Record.{Record}
 use Rattle.cif_records.specs.declared.record.Record.TheVariants as of
 use Rattle.cif_views.proofs.DifferingCells.{all-covered, all-moved, are_covered, covered}
 use Rattle.cif_views.proofs.{PairedBodies.IsPlace, TableRows.call-fields}
-use Rattle.cif_views.proofs.RowLines.{AreCells, are-cells, cells_of, number-printable}
+use Rattle.cif_rows.specs.Row.{IsSaid}
+use Rattle.cif_views.proofs.RowLines.{AreValues, are-values, cells_of, number-said}
+use Rattle.cif_views.proofs.RowNames.{Value, cell_of, number}
 
 -- ---- lines of journeys
 
@@ -71,28 +73,33 @@ fields_of true = call_fields
 fields_of false = change_fields
 
 abbrev cells_at : Bool → JourneyKind → List ℕ → List (List ℕ)
-cells_at calls kind line = map (shown Tsv) (fields_in kind (journey_columns calls) line)
+cells_at calls kind line = map cell_of (values_in kind (journey_columns calls) line)
+
+values-are : (calls : Bool) (p : Numbered) →
+    row_values (fields_of calls) p
+    ≡ number p.schedule ∷ number p.call ∷ values_in (kind_of_line p.line) (journey_columns calls) p.line
+values-are true p =
+    let kind = kind_of_line p.line in
+    ap (λ (own : List Value). number p.schedule ∷ number p.call ∷ (values_in kind (take 3 call_columns) p.line ++ own))
+    (call-fields p.line kind refl)
+values-are false p = refl
 
 row-is : (calls : Bool) (p : Numbered) →
     cells_of (fields_of calls) p ≡ decimal p.schedule ∷ decimal p.call ∷ cells_at calls (kind_of_line p.line) p.line
-row-is true p =
-    let kind = kind_of_line p.line in
-    ap (λ (own : List Field). map (shown Tsv) (number p.schedule ∷ number p.call ∷ (fields_in kind (take 3 call_columns) p.line ++ own)))
-    (call-fields p.line kind refl)
-row-is false p = refl
+row-is calls p = ap (map cell_of) (values-are calls p)
 
 are-within : (calls : Bool) → IsTrue (are_within (journey_columns calls))
 are-within true = refl
 are-within false = refl
 
-pub row-cells : (calls : Bool) (p : Numbered) → IsRow calls 1 most p → AreCells (cells_of (fields_of calls) p)
-row-cells calls p row =
+pub row-said : (calls : Bool) (p : Numbered) → IsRow calls 1 most p → AreValues (row_values (fields_of calls) p)
+row-said calls p row =
     let n = row.numbered in
-    let own = cells_at calls (kind_of_line p.line) p.line in
-    subst AreCells (sym (row-is calls p))
-    (All-cons ArePrintable (decimal p.schedule) (decimal p.call ∷ own) (number-printable p.schedule (omega (arith, n.upto)))
-    (All-cons ArePrintable (decimal p.call) own (number-printable p.call (omega (arith, n.call_upto)))
-    (are-cells p.line (line-of p.line n.line) (kind_of_line p.line) (journey_columns calls) (are-within calls))))
+    let own = values_in (kind_of_line p.line) (journey_columns calls) p.line in
+    subst AreValues (sym (values-are calls p))
+    (All-cons IsSaid (number p.schedule) (number p.call ∷ own) (number-said p.schedule (omega (arith, n.upto)))
+    (All-cons IsSaid (number p.call) own (number-said p.call (omega (arith, n.call_upto)))
+    (are-values p.line (line-of p.line n.line) (kind_of_line p.line) (journey_columns calls) (are-within calls))))
 
 -- the cells of a row cover what its record says behind its identity
 covers : (calls : Bool) (r : Record) → IsPlace r → has_row calls (sort_of r) ≡ true →

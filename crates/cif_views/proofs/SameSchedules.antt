@@ -1,11 +1,11 @@
 -- Schedules with the same rows in the tables of schedules, calls and changes are the same.
-use Rattle.cif_views.proofs.Names.{All, All-append, All-cons, All-filter, All-head, All-nil, All-tail, ArePrintable, BodyLines, Bool, Each}
+use Rattle.cif_views.proofs.Names.{All, All-append, All-cons, All-filter, All-head, All-nil, All-tail, BodyLines, Bool, Each}
 use Rattle.cif_views.proofs.Names.{Extra, IsLine, JourneyKind, List, None, Numbered, NumberedSchedule, Option, Other, Permanent, RecordFits}
-use Rattle.cif_views.proofs.Names.{ScheduleLines, Some, Tsv, [], ap, arith, basic_columns, columns, cond, decimal, decimal_injective, drop}
+use Rattle.cif_views.proofs.Names.{ScheduleLines, Some, [], ap, arith, basic_columns, columns, cond, decimal, decimal_injective, drop}
 use Rattle.cif_views.proofs.Names.{enumerate_from, extra_columns, extra_fields, extra_in, extra_records, false, filter, filter_passes}
 use Rattle.cif_views.proofs.Names.{flat_map, get_or, has_row, is_call, journey_kind, journey_records, kind_of_line, length, map}
-use Rattle.cif_views.proofs.Names.{numbered_from, numbered_schedule, parts_in, plain_line, record_table, refl, row_fields, schedule_fields}
-use Rattle.cif_views.proofs.Names.{schedule_plain, shown, spaces, subst, sym, take, trimmed, true, ℕ, ◌++◌, ◌+◌, ◌<◌, ◌^◌, ◌∙◌, ◌∷◌, ◌≡◌}
+use Rattle.cif_views.proofs.Names.{numbered_from, numbered_schedule, parts_in, plain_line, record_table, refl, row_values, schedule_fields}
+use Rattle.cif_views.proofs.Names.{schedule_plain, spaces, subst, sym, take, true, values_in, ℕ, ◌++◌, ◌+◌, ◌<◌, ◌^◌, ◌∙◌, ◌∷◌, ◌≡◌}
 use Rattle.cif_views.proofs.Names.{◌≤◌}
 use Rattle.cif_records.proofs.Records as records
 use Rattle.cif_records.specs.declared.record.Record.{Record}
@@ -13,7 +13,9 @@ use Rattle.cif_records.specs.declared.record.Record.TheVariants as of
 use Rattle.cif_extract.proofs.PlainTexts.{lines_of}
 use Rattle.cif_views.proofs.PairedBodies.{ArePlaces, FitsLines, are-further_of, are-places, basic_line, behind_extra, extra-fits}
 use Rattle.cif_views.proofs.PairedBodies.{extra_line, further-of as further-of_body, journey-fits, same-extra}
-use Rattle.cif_views.proofs.RowLines.{AreCells, IsPlain, are-cells, cells_in, cells_of, is-line, number-printable, one-line}
+use Rattle.cif_rows.specs.Row.{IsSaid}
+use Rattle.cif_views.proofs.RowLines.{AreValues, IsPlain, are-values, cells_in, cells_of, is-line, number-said, one-line}
+use Rattle.cif_views.proofs.RowNames.{cell_of, number, trimmed}
 use Rattle.cif_views.proofs.SameJourneys.{IsNumbered, IsOfJourney, IsRow, are-numbered, listed_from, most, same-journey}
 
 -- the lines of a schedule of a canonical extract; the numbers of its calls can be written
@@ -147,13 +149,13 @@ line-of_extra line x = subst IsLine (sym x.is) (is x.it x.fits)
     is None fits = record { width = refl; printable = spaces 80 }
     is (Some e) fits = records.line (of.Extra e) fits.0
 
-pub schedule-cells : (s : NumberedSchedule) → IsNumberedPlain s → AreCells (cells_of schedule_fields s)
-schedule-cells s p =
-    let basic = are-cells s.basic (is-line basic_line basic_columns (λ e. refl) (λ e g. refl) s.basic p.basic) Other basic_columns refl in
-    let extra = are-cells s.extra (line-of_extra s.extra p.extra) Other extra_columns refl in
-    All-cons ArePrintable (decimal s.schedule) (cells_in basic_columns s.basic ++ cells_in extra_columns s.extra)
-    (number-printable s.schedule p.few)
-    (All-append ArePrintable (cells_in basic_columns s.basic) (cells_in extra_columns s.extra) basic extra)
+pub schedule-said : (s : NumberedSchedule) → IsNumberedPlain s → AreValues (row_values schedule_fields s)
+schedule-said s p =
+    let basic = are-values s.basic (is-line basic_line basic_columns (λ e. refl) (λ e g. refl) s.basic p.basic) Other basic_columns refl in
+    let extra = are-values s.extra (line-of_extra s.extra p.extra) Other extra_columns refl in
+    All-cons IsSaid (number s.schedule) (values_in Other basic_columns s.basic ++ values_in Other extra_columns s.extra)
+    (number-said s.schedule p.few)
+    (All-append IsSaid (values_in Other basic_columns s.basic) (values_in Other extra_columns s.extra) basic extra)
 
 same-numbered : (s t : NumberedSchedule) → s.schedule ≡ t.schedule → s.basic ≡ t.basic → s.extra ≡ t.extra → s ≡ t
 same-numbered s t a b c = λ i. record { schedule = a i; basic = b i; extra = c i }
@@ -197,7 +199,7 @@ one-schedule : (n : ℕ) (s t : ScheduleLines) → IsSchedule s → IsSchedule t
 one-schedule n s t p q basic extra rows =
     let line = sym (extra-there s p) ∙ extra ∙ extra-there t q in
     let same = same-extra (extra_of p.it) (extra_of q.it) (extra-fits p.it p.fits) (extra-fits q.it q.fits)
-    (ap (λ (l : List ℕ). trimmed (columns 1 2 l)) line) (ap (λ (l : List ℕ). map (shown Tsv) (row_fields extra_fields l)) line) in
+    (ap (λ (l : List ℕ). trimmed (columns 1 2 l)) line) (ap (λ (l : List ℕ). map cell_of (row_values extra_fields l)) line) in
     let journey = same-journey n 1 (journey_of p.it) (journey_of q.it) (of-journey p.it p.fits) (of-journey q.it q.fits)
     (λ calls. sym (listed-of calls n s p) ∙ rows calls ∙ listed-of calls n t q) in
     same-lines s t basic (further-of s p ∙ (λ i. behind_extra (same i) (journey i)) ∙ sym (further-of t q))

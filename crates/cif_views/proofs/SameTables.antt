@@ -7,8 +7,8 @@ use Rattle.cif_views.proofs.Names.{association_columns, association_entries, ass
 use Rattle.cif_views.proofs.Names.{enumerate_from, extract_text, extracts-unique, false, flat_map, flat_map-append, flat_map-map}
 use Rattle.cif_views.proofs.Names.{further_lines, header_fields, header_table, length, length-append, line_of_association, line_of_tiploc}
 use Rattle.cif_views.proofs.Names.{lines_of_schedule, lines_text, map, numbered_schedule, one_spelled, option_map, over, permanent_entries}
-use Rattle.cif_views.proofs.Names.{plain_line, plain_lines_of, refl, row_line, schedule_entries, schedule_entry, schedule_fields}
-use Rattle.cif_views.proofs.Names.{schedule_plain, spelled-fits, subst, sym, table_heading, table_rows, table_text, terms_of, tiploc_fields}
+use Rattle.cif_views.proofs.Names.{plain_line, plain_lines_of, refl, row_of, schedule_entries, schedule_entry, schedule_fields}
+use Rattle.cif_views.proofs.Names.{schedule_plain, spelled-fits, subst, sym, table_names, table_rows, table_text, terms_of, tiploc_fields}
 use Rattle.cif_views.proofs.Names.{tiploc_table, trailer_table, true, ℕ, ◌++◌, ◌+◌, ◌<◌, ◌^◌, ◌↔◌, ◌∙◌, ◌∷◌, ◌≡◌, ◌≢◌, ◌≤◌}
 use Rattle.std.proofs.lemmas.Simd.{map-map}
 use Rattle.cif_records.specs.Association as aa
@@ -16,9 +16,11 @@ use Rattle.cif_canon.{proofs.SameExtracts.same-sym, proofs.SameExtracts.same-tra
 use Rattle.cif_views.proofs.{PairedBodies.FitsLines, PairedBodies.association_line, RowsOfDifferences.AssociationEntryFits}
 use Rattle.cif_views.{proofs.RowsOfDifferences.ScheduleEntryFits, specs.SameTables.HaveSameTables, specs.Tables.association_fields}
 use Rattle.cif_views.proofs.RowLines.{IsPlain, same-plain_row, same-plain_rows, same-rows}
-use Rattle.cif_views.proofs.SameJourneys.{IsRow, fields_of, most, one-row, row-cells}
+use Rattle.cif_views.proofs.Names.{map-append}
+use Rattle.cif_views.proofs.RowNames.{Field, Format, Text, heading_text, row_text}
+use Rattle.cif_views.proofs.SameJourneys.{IsRow, fields_of, most, one-row, row-said}
 use Rattle.cif_views.proofs.SameSchedules.{IsNumberedPlain, IsSchedule, all-numbered, all-rows, listed, rows_from, same-row_of}
-use Rattle.cif_views.proofs.SameSchedules.{same-schedules, schedule-cells, schedules_from}
+use Rattle.cif_views.proofs.SameSchedules.{same-schedules, schedule-said, schedules_from}
 use Rattle.cif_views.specs.declared.{columns.TheConstants.HEADER, columns.TheConstants.TIPLOC, tables.Table.TheVariants.Header}
 
 abbrev header_columns : List Column
@@ -37,65 +39,76 @@ record ArePlain (x : ExtractLines) : Type 0 where
   schedules : All IsSchedule x.schedules
   few : length x.schedules < 2 ^ 64
 
-flat-twice : {A B C : Type 0} (f : B → List C) (g : A → List B) (xs : List A) →
-    flat_map f (flat_map g xs) ≡ flat_map (λ x. flat_map f (g x)) xs
-flat-twice f g [] = refl
-flat-twice f g (x ∷ xs) = flat_map-append f (g x) (flat_map g xs) ∙ ap (λ l. flat_map f (g x) ++ l) (flat-twice f g xs)
+module _ (format : Format) (not : format ≢ Text) (x y : ExtractLines) (one : ArePlain x) (other : ArePlain y)
+    (same : HaveSameTables format x y) where
+  abbrev text : List (List Field) → List ℕ
+  text rows = flat_map (row_text format) rows
 
-module _ (x y : ExtractLines) (one : ArePlain x) (other : ArePlain y) (same : HaveSameTables x y) where
-  rows : (table : Table) → table ≢ Public → table_rows table x ≡ table_rows table y
+  rows : (table : Table) → table ≢ Public → text (table_rows table x) ≡ text (table_rows table y)
   unfolding table_text
-  rows table not = append_cancel_left (table_heading table) (table_rows table x) (table_rows table y) (same table not)
+  rows table other_table =
+      append_cancel_left (heading_text format (table_names table)) (text (table_rows table x)) (text (table_rows table y)) (same table other_table)
 
   few-of : (z : ExtractLines) → ArePlain z → 1 + length z.schedules ≤ 2 ^ 64
   few-of z p = let few = p.few in omega (arith, few)
 
   headers : x.header ≡ y.header
   headers =
-      same-plain_row header_table header_columns (λ h. refl) (λ h k. refl) header_fields (λ l. refl) refl (omega arith) x.header y.header
-      one.header other.header (rows Header (λ e. absurd (cc)))
+      same-plain_row header_table header_columns (λ h. refl) (λ h k. refl) format not header_fields (λ l. refl) refl (omega arith) x.header
+      y.header one.header other.header (rows Header (λ e. absurd (cc)))
 
   tiplocs : x.tiplocs ≡ y.tiplocs
   tiplocs =
-      same-plain_rows tiploc_table tiploc_columns (λ t. refl) (λ t u. refl) tiploc_fields (λ l. refl) refl (omega arith) x.tiplocs y.tiplocs
-      one.tiplocs other.tiplocs (rows Tiplocs (λ e. absurd (cc)))
+      same-plain_rows tiploc_table tiploc_columns (λ t. refl) (λ t u. refl) format not tiploc_fields (λ l. refl) refl (omega arith) x.tiplocs
+      y.tiplocs one.tiplocs other.tiplocs (rows Tiplocs (λ e. absurd (cc)))
 
   associations : x.associations ≡ y.associations
   associations =
-      same-plain_rows association_line association_columns (λ e. refl) (λ e g. refl) association_fields (λ l. refl) refl (omega arith)
-      x.associations y.associations one.associations other.associations (rows Associations (λ e. absurd (cc)))
+      same-plain_rows association_line association_columns (λ e. refl) (λ e g. refl) format not association_fields (λ l. refl) refl
+      (omega arith) x.associations y.associations one.associations other.associations (rows Associations (λ e. absurd (cc)))
+
+  -- rows of schedules, one for each
+  one-each : (z : List (ℕ × ScheduleLines)) →
+      flat_map (λ (s : ℕ × ScheduleLines). row_of schedule_fields (numbered_schedule s) ∷ []) z
+      ≡ map (row_of schedule_fields) (map numbered_schedule z)
+  one-each [] = refl
+  one-each (s ∷ z) = ap (λ (rows : List (List Field)). row_of schedule_fields (numbered_schedule s) ∷ rows) (one-each z)
 
   numbered : schedules_from 1 x.schedules ≡ schedules_from 1 y.schedules
   numbered =
-      let text : (z : ExtractLines) → flat_map (row_line schedule_fields) (schedules_from 1 z.schedules) ≡ table_rows Schedules z =
-      λ z. flat_map-map (row_line schedule_fields) numbered_schedule (enumerate_from 1 z.schedules) in
-      same-rows schedule_fields IsNumberedPlain (omega arith) schedule-cells same-row_of (schedules_from 1 x.schedules)
+      let is : (z : ExtractLines) → table_rows Schedules z ≡ map (row_of schedule_fields) (schedules_from 1 z.schedules) =
+      λ z. one-each (enumerate_from 1 z.schedules) in
+      same-rows format not schedule_fields IsNumberedPlain (omega arith) schedule-said same-row_of (schedules_from 1 x.schedules)
       (schedules_from 1 y.schedules) (all-numbered 1 x.schedules (few-of x one) one.schedules)
       (all-numbered 1 y.schedules (few-of y other) other.schedules)
-      (text x ∙ rows Schedules (λ e. absurd (cc)) ∙ sym (text y))
+      (ap text (sym (is x)) ∙ rows Schedules (λ e. absurd (cc)) ∙ ap text (is y))
 
   -- the rows of calls, or else of changes
-  abbrev text_of_rows : Bool → ExtractLines → List ℕ
-  text_of_rows calls z =
-      flat_map (λ (s : ℕ × ScheduleLines). flat_map (row_line (fields_of calls)) (listed calls s.0 s.1.further))
-      (enumerate_from 1 z.schedules)
+  abbrev rows_of_lines : Bool → ExtractLines → List (List Field)
+  rows_of_lines calls z =
+      flat_map (λ (s : ℕ × ScheduleLines). map (row_of (fields_of calls)) (listed calls s.0 s.1.further)) (enumerate_from 1 z.schedules)
 
-  texts-of_rows : (calls : Bool) → text_of_rows calls x ≡ text_of_rows calls y
+  texts-of_rows : (calls : Bool) → text (rows_of_lines calls x) ≡ text (rows_of_lines calls y)
   texts-of_rows true = rows Calls (λ e. absurd (cc))
   texts-of_rows false = rows Changes (λ e. absurd (cc))
 
-  some-field : (calls : Bool) → 0 < length (fields_of calls)
-  some-field true = omega arith
-  some-field false = omega arith
+  some-field_of : (calls : Bool) → 0 < length (fields_of calls)
+  some-field_of true = omega arith
+  some-field_of false = omega arith
+
+  map-flat : {A B C : Type 0} (f : B → C) (g : A → List B) (xs : List A) → map f (flat_map g xs) ≡ flat_map (λ x. map f (g x)) xs
+  map-flat f g [] = refl
+  map-flat f g (a ∷ rest) = map-append f (g a) (flat_map g rest) ∙ ap (λ l. map f (g a) ++ l) (map-flat f g rest)
 
   journeys : (calls : Bool) → rows_from calls 1 x.schedules ≡ rows_from calls 1 y.schedules
   journeys calls =
-      let text : (z : ExtractLines) → flat_map (row_line (fields_of calls)) (rows_from calls 1 z.schedules) ≡ text_of_rows calls z =
-      λ z. flat-twice (row_line (fields_of calls)) _ (enumerate_from 1 z.schedules) in
-      same-rows (fields_of calls) (IsRow calls 1 most) (some-field calls) (row-cells calls) (one-row calls) (rows_from calls 1 x.schedules)
-      (rows_from calls 1 y.schedules) (all-rows calls 1 1 x.schedules (omega arith) (few-of x one) one.schedules)
+      let is : (z : ExtractLines) → map (row_of (fields_of calls)) (rows_from calls 1 z.schedules) ≡ rows_of_lines calls z =
+      λ z. map-flat (row_of (fields_of calls)) _ (enumerate_from 1 z.schedules) in
+      same-rows format not (fields_of calls) (IsRow calls 1 most) (some-field_of calls) (row-said calls) (one-row calls)
+      (rows_from calls 1 x.schedules) (rows_from calls 1 y.schedules)
+      (all-rows calls 1 1 x.schedules (omega arith) (few-of x one) one.schedules)
       (all-rows calls 1 1 y.schedules (omega arith) (few-of y other) other.schedules)
-      (text x ∙ texts-of_rows calls ∙ sym (text y))
+      (ap text (is x) ∙ texts-of_rows calls ∙ ap text (sym (is y)))
 
   schedules : x.schedules ≡ y.schedules
   schedules = same-schedules 1 x.schedules y.schedules one.schedules other.schedules (few-of x one) (few-of y other) numbered journeys
@@ -216,7 +229,7 @@ module _ (form : Form) (x : ExtractParts) (text : List ℕ) (is : IsCanonicalTex
 
 -- ---- canonical extracts
 
-module _ (form other : Form) (x y : ExtractParts) (c d : CanonParts) (one : IsCanonOf form x c) (two : IsCanonOf other y d)
+module _ (format : Format) (not : format ≢ Text) (form other : Form) (x y : ExtractParts) (c d : CanonParts) (one : IsCanonOf form x c) (two : IsCanonOf other y d)
     (few : length c.text < 2 ^ 64) (as-few : length d.text < 2 ^ 64) where
   abbrev made : ExtractParts
   made = one.canonical.made
@@ -224,11 +237,12 @@ module _ (form other : Form) (x y : ExtractParts) (c d : CanonParts) (one : IsCa
   abbrev other_made : ExtractParts
   other_made = two.canonical.made
 
-  text-of_tables : HaveSameTables c.lines d.lines → c.text ≡ d.text
+  text-of_tables : HaveSameTables format c.lines d.lines → c.text ≡ d.text
   text-of_tables same =
-      let lines = same-lines (lines_of made) (lines_of other_made) (are-plain form made c.text one.canonical.canonical few)
+      let lines = same-lines format not (lines_of made) (lines_of other_made) (are-plain form made c.text one.canonical.canonical few)
       (are-plain other other_made d.text two.canonical.canonical as-few)
-      (λ table not. ap (table_text table) (sym one.lines_are) ∙ same table not ∙ ap (table_text table) two.lines_are) in
+      (λ table other_table.
+      ap (table_text format table) (sym one.lines_are) ∙ same table other_table ∙ ap (table_text format table) two.lines_are) in
       one.canonical.canonical.text ∙ text-is made ∙ ap text_of lines ∙ sym (text-is other_made) ∙ sym two.canonical.canonical.text
 
   one-made : c.text ≡ d.text → made ≡ other_made
@@ -236,28 +250,37 @@ module _ (form other : Form) (x y : ExtractParts) (c d : CanonParts) (one : IsCa
       one_spelled d.text made other_made (subst (λ t. BytesSpell t made) same one.canonical.canonical.spelled)
       two.canonical.canonical.spelled
 
-  pub same-text : HaveSameTables c.lines d.lines ↔ (c.text ≡ d.text)
-  same-text = (text-of_tables, λ same table not. ap (table_text table) (one.lines_are ∙ ap lines_of (one-made same) ∙ sym two.lines_are))
+  same-text : HaveSameTables format c.lines d.lines ↔ (c.text ≡ d.text)
+  same-text =
+      (text-of_tables, λ same table other_table. ap (table_text format table) (one.lines_are ∙ ap lines_of (one-made same) ∙ sym two.lines_are))
 
 -- of one form they have the same tables exactly if they say the same
-module _ (form : Form) (x y : ExtractParts) (c d : CanonParts) (one : IsCanonOf form x c) (two : IsCanonOf form y d)
-    (few : length c.text < 2 ^ 64) (as-few : length d.text < 2 ^ 64) where
+module _ (format : Format) (not : format ≢ Text) (form : Form) (x y : ExtractParts) (c d : CanonParts) (one : IsCanonOf form x c)
+    (two : IsCanonOf form y d) (few : length c.text < 2 ^ 64) (as-few : length d.text < 2 ^ 64) where
   abbrev p : IsCanonicalOf form x c.text
   p = one.canonical
 
   abbrev q : IsCanonicalOf form y d.text
   q = two.canonical
 
-  said : HaveSameTables c.lines d.lines → SameMeaning x y
+  said : HaveSameTables format c.lines d.lines → SameMeaning x y
   said same =
-      let made = one-made form form x y c d one two few as-few (text-of_tables form form x y c d one two few as-few same) in
+      let made = one-made format not form form x y c d one two few as-few (text-of_tables format not form form x y c d one two few as-few same) in
       same-trans x p.made y p.same (subst (λ m. SameMeaning m y) (sym made) (same-sym y q.made q.same))
 
-  shown-same : SameMeaning x y → HaveSameTables c.lines d.lines
+  shown-same : SameMeaning x y → HaveSameTables format c.lines d.lines
   shown-same same =
       let made = extracts-unique form p.made q.made p.canonical.canonical q.canonical.canonical
       (same-trans p.made x q.made (same-sym x p.made p.same) (same-trans x y q.made same q.same)) in
-      (same-text form form x y c d one two few as-few).1 (p.canonical.text ∙ ap extract_text made ∙ sym q.canonical.text)
+      (same-text format not form form x y c d one two few as-few).1 (p.canonical.text ∙ ap extract_text made ∙ sym q.canonical.text)
 
-  pub same-meaning : HaveSameTables c.lines d.lines ↔ SameMeaning x y
+  same-meaning : HaveSameTables format c.lines d.lines ↔ SameMeaning x y
   same-meaning = (said, shown-same)
+
+pub text-law : (format : Format) (form other : Form) (x y : ExtractParts) (c d : CanonParts) → IsCanonOf form x c → IsCanonOf other y d →
+    length c.text < 2 ^ 64 → length d.text < 2 ^ 64 → format ≢ Text → HaveSameTables format c.lines d.lines ↔ (c.text ≡ d.text)
+text-law format form other x y c d one two few as-few not = same-text format not form other x y c d one two few as-few
+
+pub meaning-law : (format : Format) (form : Form) (x y : ExtractParts) (c d : CanonParts) → IsCanonOf form x c → IsCanonOf form y d →
+    length c.text < 2 ^ 64 → length d.text < 2 ^ 64 → format ≢ Text → HaveSameTables format c.lines d.lines ↔ SameMeaning x y
+meaning-law format form x y c d one two few as-few not = same-meaning format not form x y c d one two few as-few

@@ -216,6 +216,27 @@ pub(crate) const CHANGE: [Column; 21] = [
     ("reserved_a", Text(68, 75)),
 ];
 
+/// The names of the fields of the table of differences.
+pub(crate) const DIFFERENCE: [Column; 17] = [
+    ("change", Nowhere),
+    ("kind", Nowhere),
+    ("tiploc", Nowhere),
+    ("uid", Nowhere),
+    ("associated_uid", Nowhere),
+    ("location", Nowhere),
+    ("base_suffix", Nowhere),
+    ("associated_suffix", Nowhere),
+    ("first_date", Nowhere),
+    ("last_date", Nowhere),
+    ("days_run", Nowhere),
+    ("call", Nowhere),
+    ("record", Nowhere),
+    ("place", Nowhere),
+    ("field", Nowhere),
+    ("left", Nowhere),
+    ("right", Nowhere),
+];
+
 /// Fields that a record doesn't have, in the table of differences.
 const NO_TIPLOC: Column = ("tiploc", Nowhere);
 

@@ -15,10 +15,10 @@ ghost use Rattle.cif_views.specs.Steps.DifferenceHeads.{IsShortPlace, change_on,
 ghost use Rattle.cif_views.specs.declared.difference_table.RecordKind.TheVariants.{Association};
 
 use crate::columns::{
-    ASSOCIATION, ASSOCIATION_HEAD, BASIC, BASIC_HEAD, CALL, CHANGE, Column, ColumnRange, EXTRA,
-    JourneyKind, TIPLOC_HEAD, call_after, extra_among, kind_of_line, span_in,
+    ASSOCIATION, ASSOCIATION_HEAD, BASIC, BASIC_HEAD, CALL, CHANGE, Column, ColumnRange, DIFFERENCE,
+    EXTRA, JourneyKind, TIPLOC_HEAD, call_after, extra_among, kind_of_line, span_in,
 };
-use crate::line_fields::{columns_in, push_each};
+use crate::line_fields::{columns_in, push_each, push_names};
 use cif_canon::writing::{Texts, answer};
 use cif_canon::{CanonSchedule, Differences, ListedRecord, Side, Sided};
 use cif_columns::{Line, LineSlice, Sink, Uid, WriteDevice, columns_at, used_columns};
@@ -27,27 +27,6 @@ use cif_records::{AssocBody, AssocKey, Kind, Tiploc, kind_of};
 use cif_rows::{Format, Json, Padded, Padding, RowFormat, Rows, Shape, Tsv};
 use itoa::Buffer;
 use std::marker::PhantomData;
-
-/// The fields of a row.
-const NAMES: [&str; 17] = [
-    "change",
-    "kind",
-    "tiploc",
-    "uid",
-    "associated_uid",
-    "location",
-    "base_suffix",
-    "associated_suffix",
-    "first_date",
-    "last_date",
-    "days_run",
-    "call",
-    "record",
-    "place",
-    "field",
-    "left",
-    "right",
-];
 
 /// Appends the table of the differences in this format: the names of its fields, if it has such a line, a row for each
 /// location and for each record that only one side has, and for each pair of records a row for each field that differs.
@@ -85,9 +64,7 @@ fn write_heading<F: RowFormat, W: WriteDevice>(sink: &mut Sink<W>)
     ensures { IsAppended W.contents W.write_errors (heading_text F.FORMAT difference_names) sink.old sink.new }
 {
     let mut rows = Rows::<F>::new();
-    for name in &NAMES {
-        rows.push_name(sink, name);
-    }
+    push_names(&mut rows, &DIFFERENCE, sink);
     rows.end_names();
     rows.finish(sink);
 }
@@ -407,12 +384,13 @@ fn write_field<F: RowFormat, W: WriteDevice>(
     if one == other {
         return;
     }
+    let (left, right) = (columns_in(&lines.left, span), columns_in(&lines.right, span));
     rows.begin_row(sink);
     push_head(rows, &start.head, sink);
     push_place(rows, &start.place, sink);
     push_text(rows, "field", field.0, sink);
-    rows.push(sink, "left", Padding::Apart, Shape::Trimmed, one);
-    rows.push(sink, "right", Padding::Apart, Shape::Trimmed, other);
+    rows.push(sink, "left", Padding::Apart, Shape::Trimmed, left);
+    rows.push(sink, "right", Padding::Apart, Shape::Trimmed, right);
     rows.end_row(sink);
 }
 

@@ -118,6 +118,7 @@ pub(crate) fn columns_in(line: &Line, span: ColumnRange) -> &[u8]
     requires { IsTrue (is_span span) }
     ensures columns { result.now ≡ columns span.0 span.1 line.now }
     ensures len { length result.now ≡ span.1 + 1 - span.0 }
+    ensures few { length result.now ≤ 80 }
 {
     &line.bytes()[span.0 - 1..span.1]
 }

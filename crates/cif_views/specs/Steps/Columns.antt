@@ -7,7 +7,7 @@ use Rattle.cif_rows.specs.declared.shape.Shape.TheVariants as shape
 use Rattle.cif_views.specs.Tables.{yymmdd_from}
 use Rattle.cif_views.specs.declared.{columns.FieldPlace.FieldPlace, columns.JourneyKind.JourneyKind}
 use Rattle.cif_views.specs.declared.columns.FieldPlace.TheVariants.{Call, Date, DayFirst, Nowhere, Text, Whole}
-use Rattle.cif_views.specs.declared.columns.TheConstants.{ASSOCIATION, BASIC, CALL, CHANGE, EXTRA}
+use Rattle.cif_views.specs.declared.columns.TheConstants.{ASSOCIATION, BASIC, CALL, CHANGE, DIFFERENCE, EXTRA}
 use Rattle.cif_views.specs.declared.columns.JourneyKind.TheVariants.{Change, Origin, Other, Stop, Terminus}
 
 -- a field of a table: its name, and its place; and fields as the code has them
@@ -35,6 +35,9 @@ extra_columns = over EXTRA (λ c. (c.0.now, c.1))
 
 abbrev pub call_columns : List Column
 call_columns = over CALL (λ c. (c.0.now, c.1))
+
+abbrev pub difference_columns : List Column
+difference_columns = over DIFFERENCE (λ c. (c.0.now, c.1))
 
 abbrev pub change_columns : List Column
 change_columns = over CHANGE (λ c. (c.0.now, c.1))

@@ -1,18 +1,13 @@
--- The fields of the columns are a row (`columns-row`).
-use Rattle.cif_views.proofs.{Names.Other, Names.fields_in, Names.named, TableRows.begun-row, TableRows.columns-row, TableRows.more-pushed}
-use Rattle.cif_canon.proofs.AppendedTexts.{text-is}
+-- The fields of the columns are a row (`row-added`).
+use Rattle.cif_views.proofs.Names.{Other, columns_of, fields_in}
+use Rattle.cif_views.proofs.RowNames.{all-written, row-added}
+use Rattle.cif_views.proofs.TableRows.{some-columns}
 use Rattle.cif_views.proofs.tables.write_line.Goals as goal
-
-pub write-requires-clause-some : goal.write-requires-clause-some
-write-requires-clause-some g c =
-    (columns-row Other c.args.columns.now c.args.line.now _ c.requires.some
-    (more-pushed _ _ _ _ (fields_in Other (named c.args.columns.now) c.args.line.now) (begun-row _ c.new-row.ensures)
-    c.push_each.ensures.text)).1
 
 pub returns : goal.returns
 returns g c =
-    text-is _ _ _ _ _ _
-    (columns-row Other c.args.columns.now c.args.line.now _ c.requires.some
-    (more-pushed _ _ _ _ (fields_in Other (named c.args.columns.now) c.args.line.now) (begun-row _ c.new-row.ensures)
-    c.push_each.ensures.text)).0
-    c.write.ensures.text
+    let f = g.F.RowFormat.FORMAT in
+    all-written _ _ _ _ _ _ _ _ c.new-rows.ensures
+    (row-added _ _ f (fields_in Other (columns_of c.args.columns.now) c.args.line.now) _ _ _ _ _ _ _ _
+    (some-columns f Other c.args.columns.now c.args.line.now c.requires.some) c.begin_row.ensures c.push_each.ensures c.end_row.ensures)
+    c.finish.ensures

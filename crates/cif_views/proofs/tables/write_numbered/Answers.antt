@@ -1,34 +1,42 @@
--- The table has a row of the line, whose fields go behind what the row begins with (`pushed`), or it has none.
-use Rattle.cif_views.proofs.Names.{Field, List, [], ap, append-nil, arith, fields_in, journey_columns, number, sym, ◌++◌, ◌∙◌, ◌∷◌}
-use Rattle.cif_views.proofs.GatheredRows.{gathered-is, pushed, rows-more}
-use Rattle.cif_views.proofs.Names.{Bool, JourneyKind, cond, has_row, row_behind, row_of_kind, ℕ, ◌≡◌}
+-- The table has a row of the line (`row-added`), or none.
+use Rattle.cif_views.proofs.Names.{Bool, JourneyKind, List, [], ap, append-nil, codes, cond, fields_in, flat_map, has_row, journey_columns}
+use Rattle.cif_views.proofs.Names.{refl, row_of_kind, sym, ℕ, ◌++◌, ◌∙◌, ◌∷◌, ◌≡◌}
+use Rattle.cif_views.proofs.RowNames.{Field, Number, added-is, added-waits, field-added, fields-added, named, number_field, row-added, row_text}
+use Rattle.cif_views.proofs.RowNames.{some-field}
 use Rattle.cif_views.proofs.tables.write_numbered.Goals as goal
 
-own-row : (calls has : Bool) (begun : List ℕ) (call : ℕ) (kind there : JourneyKind) (line : List ℕ) → has ≡ has_row calls kind →
-    kind ≡ there →
-    cond has (row_behind begun (number call ∷ fields_in kind (journey_columns calls) line)) [] ≡ row_of_kind calls begun call there line
-own-row calls has begun call kind there line is kind_is =
-    ap (λ h. cond h (row_behind begun (number call ∷ fields_in kind (journey_columns calls) line)) []) is
-    ∙ ap (λ k. row_of_kind calls begun call k line) kind_is
+abbrev row : Bool → List ℕ → ℕ → JourneyKind → List ℕ → List Field
+row calls schedule call kind line =
+    named (codes "schedule") (Number, schedule) ∷ number_field (codes "call") call ∷ fields_in kind (journey_columns calls) line
 
-pub returns-then-has_row-clause-text : goal.returns-then-has_row-clause-text
-returns-then-has_row-clause-text g c = λ begin text s long h.
-    let fields : List Field =
-    number c.args.call ∷ fields_in c.kind_of_line-kind.result (journey_columns c.args.calls) c.args.line.now in
-    gathered-is _ _ begin s _ _ _ _
-    (ap (λ own. text ++ own)
-    (own-row c.args.calls _ begin c.args.call _ _ c.args.line.now c.if-has_row.ensures c.kind_of_line-kind.ensures))
-    (pushed _ _ begin text s _ _ _ fields (omega arith) (c.next_row.ensures.text begin text s long h) c.push_numbered.ensures.text)
+own-rows : (calls has : Bool) (schedule : List ℕ) (call : ℕ) (kind there : JourneyKind) (line : List ℕ) → has ≡ has_row calls kind →
+    kind ≡ there → cond has (row calls schedule call kind line ∷ []) [] ≡ row_of_kind calls schedule call there line
+own-rows calls has schedule call kind there line is kind_is =
+    ap (λ h. cond h (row calls schedule call kind line ∷ []) []) is ∙ ap (λ k. row_of_kind calls schedule call k line) kind_is
 
-pub returns-then-has_row-clause-rows : goal.returns-then-has_row-clause-rows
-returns-then-has_row-clause-rows g c =
-    let fields : List Field =
-    number c.args.call ∷ fields_in c.kind_of_line-kind.result (journey_columns c.args.calls) c.args.line.now in
-    rows-more c.args.begun _ c.next_row.new.self _ fields c.requires.rows c.next_row.ensures.begun c.next_row.ensures.room
-    c.push_numbered.ensures.text c.push_numbered.ensures.len
+pub returns-then-has_row-clause-row : goal.returns-then-has_row-clause-row
+returns-then-has_row-clause-row g c =
+    let f = g.F.RowFormat.FORMAT in
+    let calls = c.args.calls in
+    let kind = c.kind_of_line-kind.result in
+    let line = c.args.line.now in
+    let own = row calls c.args.schedule.now c.args.call kind line in
+    let n : Field = named (codes "schedule") (Number, c.args.schedule.now) in
+    let k : Field = number_field (codes "call") c.args.call in
+    let others = fields_in kind (journey_columns calls) line in
+    let fields = fields-added _ _ f (n ∷ []) (k ∷ others) _ _ _ _ _ _ (field-added _ _ f n _ _ _ _ c.push_numeral.ensures)
+    (fields-added _ _ f (k ∷ []) others _ _ _ _ _ _ (field-added _ _ f k _ _ _ _ c.push_number.ensures) c.push_journey.ensures) in
+    added-is _ _ _ _ _ _ _ _
+    (sym (append-nil (row_text f own))
+    ∙ ap (flat_map (row_text f)) (own-rows calls _ c.args.schedule.now c.args.call kind _ line c.if-has_row.ensures c.kind_of_line-kind.ensures))
+    (row-added _ _ f own _ _ _ _ _ _ _ _ (some-field f n (k ∷ others) refl) c.begin_row.ensures fields c.end_row.ensures)
 
-pub returns-else-has_row-clause-text : goal.returns-else-has_row-clause-text
-returns-else-has_row-clause-text g c = λ begin text s long h.
-    gathered-is _ _ begin s _ _ _ _
-    (sym (append-nil text) ∙ ap (λ own. text ++ own)
-    (own-row c.args.calls _ begin c.args.call _ _ c.args.line.now c.if-has_row.ensures c.kind_of_line-kind.ensures)) h
+pub returns-else-has_row-clause-row : goal.returns-else-has_row-clause-row
+returns-else-has_row-clause-row g c =
+    let f = g.F.RowFormat.FORMAT in
+    let calls = c.args.calls in
+    let kind = c.kind_of_line-kind.result in
+    let line = c.args.line.now in
+    added-is _ _ _ _ _ _ _ _
+    (ap (flat_map (row_text f)) (own-rows calls _ c.args.schedule.now c.args.call kind _ line c.if-has_row.ensures c.kind_of_line-kind.ensures))
+    (added-waits _ _ [] _ _ _ (sym (append-nil _)))

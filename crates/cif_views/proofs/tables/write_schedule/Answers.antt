@@ -1,36 +1,22 @@
--- The number, the fields of the BS and those of the BX are the row of a schedule (`row-pushed`).
-use Rattle.cif_views.proofs.Names.{List, Other, Tsv, [], ap, arith, basic_columns, extra_columns, extra_in, fields_in, length}
-use Rattle.cif_views.proofs.Names.{length-append, number, schedule_plain, ℕ, ◌++◌, ◌∙◌, ◌∷◌}
-use Rattle.cif_canon.{proofs.AppendedTexts.text-is, specs.Fields.after}
-use Rattle.cif_views.proofs.TableRows.{begun-row, more-pushed, row-pushed}
+-- The number, the fields of the BS and those of the BX are the row of a schedule (`row-added`).
+use Rattle.cif_views.proofs.Names.{List, Other, [], ap, basic_columns, codes, extra_columns, extra_in, fields_in, numbered_schedule, refl}
+use Rattle.cif_views.proofs.Names.{row_of, schedule_fields, schedule_plain, ℕ, ◌++◌, ◌∙◌, ◌∷◌}
+use Rattle.cif_views.proofs.RowNames.{Field, added-is, all-written, field-added, fields-added, fields_text, number_field, row-added, some-field}
 use Rattle.cif_views.proofs.tables.write_schedule.Goals as goal
 
 pub returns : goal.returns
 returns g c =
+    let f = g.F.RowFormat.FORMAT in
     let s = schedule_plain c.args.schedule.now in
-    let h1 = more-pushed _ _ _ _ (number c.args.number ∷ []) (begun-row _ c.new-row.ensures) c.push_number.ensures.text in
-    let h2 = more-pushed _ _ _ _ (fields_in Other basic_columns s.basic) h1
-    (c.push_each.ensures.text
-    ∙ ap (λ (line : List ℕ). c.push_number.new.self ++ after Tsv (fields_in Other basic_columns line)) c.basic.ensures) in
-    let h3 = more-pushed _ _ _ _ (fields_in Other extra_columns (extra_in s.further)) h2
-    (c.push_each-2.ensures.text
-    ∙ ap (λ (line : List ℕ). c.push_each.new.self ++ after Tsv (fields_in Other extra_columns line))
-    (c.extra_among-extra.ensures ∙ ap extra_in c.further.ensures)) in
-    text-is _ _ _ _ _ _ (row-pushed _ (number c.args.number) _ h3) c.write.ensures.text
-
-pub write-requires-clause-some : goal.write-requires-clause-some
-write-requires-clause-some g c =
-    let row = ap length c.push_number.ensures.text ∙ length-append c.new-row.result (after Tsv (number c.args.number ∷ [])) in
-    let one = ap length c.push_each.ensures.text ∙ length-append c.push_number.new.self _ in
-    let two = ap length c.push_each-2.ensures.text ∙ length-append c.push_each.new.self _ in
-    omega (arith, row, one, two)
-
-pub push_each-requires-clause-room : goal.push_each-requires-clause-room
-push_each-requires-clause-room g c = omega (arith, ap length c.new-row.ensures, c.push_number.ensures.len)
-
-pub push_each-requires-2-clause-room : goal.push_each-requires-2-clause-room
-push_each-requires-2-clause-room g c = omega (arith, ap length c.new-row.ensures, c.push_number.ensures.len, c.push_each.ensures.len)
-
-pub write-requires-clause-room : goal.write-requires-clause-room
-write-requires-clause-room g c =
-    omega (arith, ap length c.new-row.ensures, c.push_number.ensures.len, c.push_each.ensures.len, c.push_each-2.ensures.len)
+    let n : Field = number_field (codes "schedule") c.args.number in
+    let basics = fields_in Other basic_columns s.basic in
+    let extras = fields_in Other extra_columns (extra_in s.further) in
+    let one = field-added _ _ f n _ _ _ _ c.push_number.ensures in
+    let two = added-is _ _ _ _ _ _ _ _ (ap (λ (line : List ℕ). fields_text f (fields_in Other basic_columns line)) c.basic.ensures)
+    c.push_each.ensures in
+    let three = added-is _ _ _ _ _ _ _ _ (ap (λ (line : List ℕ). fields_text f (fields_in Other extra_columns line))
+    (c.extra_among-extra.ensures ∙ ap extra_in c.further.ensures)) c.push_each-2.ensures in
+    let all = fields-added _ _ f (n ∷ []) (basics ++ extras) _ _ _ _ _ _ one (fields-added _ _ f basics extras _ _ _ _ _ _ two three) in
+    all-written _ _ _ _ _ _ _ _ c.new-rows.ensures
+    (row-added _ _ f (row_of schedule_fields (numbered_schedule (c.args.number, s))) _ _ _ _ _ _ _ _ (some-field f n (basics ++ extras) refl)
+    c.begin_row.ensures all c.end_row.ensures) c.finish.ensures
