@@ -3,6 +3,8 @@ use Rattle.cif_rows.proofs.Names.{Adds, Apart, Field, Format, IsAppended, Json, 
 use Rattle.cif_rows.proofs.Names.{arith, cell, closing, codes, drop, field_text, fields_text, flat_map, flat_map-append, get_or, heading_text}
 use Rattle.cif_rows.proofs.Names.{join_with_byte, length, length-append, map, member, names_ended, names_text, opening, padded, refl, row_text, subst, sym}
 use Rattle.cif_rows.proofs.Names.{take, take-append-add, take_all, take_more, without_last, ℕ, ◌++◌, ◌+◌, ◌-◌, ◌<◌, ◌∙◌, ◌∷◌, ◌≡◌, ◌≤◌}
+use Rattle.cif_rows.proofs.Names.{Bor, IsTrue, are_short, leb-true, nat_le, suc, texts, zero}
+use Rattle.std.proofs.lemmas.Bool.{and_parts}
 use Rattle.cif_rows.proofs.AppendedTexts.{both, nothing, text-is}
 
 module _ {W : Type 0} (contents : W → Option (List ℕ)) (errors : W → Option ℕ) where
@@ -94,7 +96,7 @@ closing-parts Json = refl
 
 module _ {W : Type 0} (contents : W → Option (List ℕ)) (errors : W → Option ℕ) where
   -- what waits ends in the last byte of the text, which other bytes take the place of
-  replaced : (text end : List ℕ) (s t : Sink W) (w x : List ℕ) → Adds contents errors text s t w x → 0 < length text →
+  pub replaced : (text end : List ℕ) (s t : Sink W) (w x : List ℕ) → Adds contents errors text s t w x → 0 < length text →
       0 < length end → Adds contents errors (without_last text ++ end) s t w (without_last x ++ end)
   replaced text end s t w x h some more =
       let long = length-append w text in
@@ -225,3 +227,27 @@ module _ {W : Type 0} (contents : W → Option (List ℕ)) (errors : W → Optio
       fields-added contents errors format (a ∷ []) (b ∷ c ∷ []) s t v w x z (field-added contents errors format a s t w x one)
       (fields-added contents errors format (b ∷ []) (c ∷ []) t u v x y z (field-added contents errors format b t u x y two)
       (field-added contents errors format c u v y z three))
+
+-- ---- names that are short
+
+pub short-at : (names : List (Bor (List ℕ))) (i : ℕ) (none : Bor (List ℕ)) → IsTrue (are_short (texts names)) → i < length names →
+    length (get_or names i none).now ≤ 100
+short-at [] i none all below = absurd (omega (arith, below))
+short-at (n ∷ names) zero none all below = leb-true (length n.now) 100 (and_parts (nat_le (length n.now) 100) _ all).0
+short-at (n ∷ names) (suc i) none all below =
+    short-at names i none (and_parts (nat_le (length n.now) 100) (are_short (texts names)) all).1 (omega (arith, below))
+
+-- ---- a list in an object of JSON
+
+-- texts with a comma after each are those with one between them, of which the last makes place for what ends them
+pub commas : (before : List ℕ) (ts : List (List ℕ)) → 0 < length ts →
+    without_last (before ++ flat_map (λ t. t ++ codes ",") ts) ≡ before ++ join_with_byte 44 ts
+commas before [] some = absurd (omega (arith, some))
+commas before (t ∷ ts) some =
+    let long = length-append (t ++ codes ",") (flat_map (λ u. u ++ codes ",") ts) in
+    let one = length-append t (codes ",") in
+    joined (λ (u : List ℕ). u) 44 before (t ∷ ts) (omega (arith, long, one)) ∙ ap (λ us. before ++ join_with_byte 44 us) (same (t ∷ ts))
+  where
+    same : (us : List (List ℕ)) → map (λ (u : List ℕ). u) us ≡ us
+    same [] = refl
+    same (u ∷ us) = ap (λ (l : List (List ℕ)). u ∷ l) (same us)

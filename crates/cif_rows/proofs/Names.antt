@@ -24,3 +24,5 @@ pub use Rattle.std.proofs.Common.{not}
 pub use Rattle.std.proofs.lemmas.List.Elements.{All-append, All-take}
 pub use Rattle.std.proofs.lemmas.Fmt.{decimal_digit}
 pub use Rattle.cif_rows.specs.declared.shape.{Padding.TheVariants.Apart, Shape.TheVariants.Number}
+pub use Rattle.std.proofs.Common.{leb-true, nat_le, suc, zero}
+pub use Rattle.cif_rows.specs.{Row.absent, Row.hidden, Row.named, Row.nothing, Steps.are_short, Steps.texts}

@@ -2,9 +2,9 @@
 use Rattle.cif_rows.proofs.Names.{All, All-cons, All-head, All-nil, All-tail, ArePrintable, Bool, Format, IsPrintable, Json, List, Number}
 use Rattle.cif_rows.proofs.Names.{Text, Tsv, [], ap, append_assoc, arith, codes, drop, escape, false, false≢true, flat_map, get_or, if◌then◌else◌, is_escaped}
 use Rattle.cif_rows.proofs.Names.{join_with_byte, length, length-append, map, member, padded, refl, row_text, subst, sym, text_value, true, value_text, without_last, ℕ}
-use Rattle.cif_rows.proofs.Names.{◌++◌, ◌+◌, ◌<◌, ◌∙◌, ◌∷◌, ◌≡◌, ◌≤◌}
+use Rattle.cif_rows.proofs.Names.{◌++◌, ◌<◌, ◌∙◌, ◌∷◌, ◌≡◌}
 use Rattle.std.{proofs.Common.◌≢◌, proofs.lemmas.List.append_cancel_left}
-use Rattle.cif_rows.specs.Row.{Field, IsDigit, IsSaid, Value, all_named, cell_of, named, number_value, trimmed, long_date}
+use Rattle.cif_rows.specs.Row.{Field, IsDigit, IsSaid, Value, cell_of, named, number_value, trimmed, long_date}
 use Rattle.cif_rows.specs.declared.shape.Shape.TheVariants.{Date, Trimmed, Whole}
 
 -- ---- a text, cut at a byte that no cell has

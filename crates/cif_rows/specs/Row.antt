@@ -32,6 +32,16 @@ number n = (Number, decimal n)
 abbrev pub named : List ℕ → Value → Field
 named name value = record { name = name; padding = Apart; shape = value.0; columns = value.1 }
 
+-- one that text joins with the next, one that only tables have, and one that the record doesn't have
+abbrev pub joined : List ℕ → Value → Field
+joined name value = record { name = name; padding = Joined; shape = value.0; columns = value.1 }
+
+abbrev pub hidden : List ℕ → Value → Field
+hidden name value = record { name = name; padding = Hidden; shape = value.0; columns = value.1 }
+
+abbrev pub absent : List ℕ → Field
+absent name = hidden name nothing
+
 abbrev pub all_named : List (List ℕ) → List Value → List Field
 all_named [] values = []
 all_named (name ∷ names) [] = []

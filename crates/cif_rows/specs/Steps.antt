@@ -1,5 +1,6 @@
 -- How the text of a row is made, field by field. No clause of a listing cites it.
-use Rattle.std.specs.Prelude.{Bool, List, [], codes, false, length, map, true, ℕ, ⊤, ◌++◌, ◌∷◌, ◌≡◌}
+use Rattle.std.specs.Prelude.{Bool, List, [], codes, length, map, nat_le, true, ℕ, ⊤, ◌&&◌, ◌++◌, ◌∷◌, ◌≡◌}
+use Rattle.std.specs.Borrow.{Bor}
 use Rattle.std.specs.List.{flat_map}
 use Rattle.cif_rows.specs.Row.{Field, cell, escape, member, padded, without_last}
 use Rattle.cif_rows.specs.declared.{format.Format.Format, shape.Shape.Shape}
@@ -53,3 +54,11 @@ width_of _ columns = length columns
 -- a byte that stands in a text of JSON as it is
 abbrev pub IsPlain : ℕ → Type 0
 IsPlain b = escape b ≡ b ∷ []
+
+-- names, as the code has them; they are short
+abbrev pub texts : List (Bor (List ℕ)) → List (List ℕ)
+texts names = map (λ name. name.now) names
+
+abbrev pub are_short : List (List ℕ) → Bool
+are_short [] = true
+are_short (name ∷ names) = nat_le (length name) 100 && are_short names

@@ -1,10 +1,10 @@
 //! Rows that are written field by field, through a buffer.
-ghost use Rattle.std.specs.Prelude.{◌≡◌, ◌<◌, ◌≤◌, ◌+◌, ◌*◌, ◌++◌, ◌∷◌, [], All, IsTrue, codes, drop, length, take};
+ghost use Rattle.std.specs.Prelude.{◌≡◌, ◌<◌, ◌≤◌, ◌+◌, ◌*◌, ◌++◌, ◌∷◌, [], All, IsTrue, codes, drop, length, map, take};
 ghost use Rattle.std.specs.List.{flat_map};
 ghost use Rattle.cif_rows.specs.{Adds.Adds, Appended.IsAppended};
-ghost use Rattle.cif_rows.specs.Row.{cell, escape, is_escaped, member, number_field, padded, text_value, value_text, without_last};
+ghost use Rattle.cif_rows.specs.Row.{absent, cell, escape, is_escaped, member, number_field, padded, text_value, value_text, without_last};
 ghost use Rattle.cif_rows.specs.declared.shape.{Padding.TheVariants.Apart, Shape.TheVariants.Number};
-ghost use Rattle.cif_rows.specs.Steps.{IsOfShape, IsPlain, closing, field_text, name_text, names_ended, opening, width_of};
+ghost use Rattle.cif_rows.specs.Steps.{IsOfShape, IsPlain, are_short, closing, field_text, fields_text, name_text, names_ended, names_text, opening, texts, width_of};
 
 use crate::format::{Format, RowFormat};
 use crate::numeral::Numeral;
@@ -340,9 +340,21 @@ impl<F: RowFormat> Rows<F> {
             sink.old sink.new self.old self.new }
     {
         if number < 10 {
-            self.push(sink, name, Padding::Apart, Shape::Number, &[b'0' + number as u8]);
+            self.push(
+                sink,
+                name,
+                Padding::Apart,
+                Shape::Number,
+                &[b'0' + number as u8],
+            );
         } else if number < 100 {
-            self.push(sink, name, Padding::Apart, Shape::Number, &digits_of(number as u8));
+            self.push(
+                sink,
+                name,
+                Padding::Apart,
+                Shape::Number,
+                &digits_of(number as u8),
+            );
         } else {
             self.push_long_number(sink, name, number);
         }
@@ -407,6 +419,27 @@ impl<F: RowFormat> Rows<F> {
         match F::FORMAT {
             Format::Text | Format::Json => {}
             Format::Tsv => self.replace_last(b'\n'),
+        }
+    }
+
+    /// Adds empty fields that the record doesn't have.
+    pub fn push_absent<W: WriteDevice>(&mut self, sink: &mut Sink<W>, names: &[&str])
+        requires short { IsTrue (are_short (texts names.now)) }
+        ensures { Adds W.contents W.write_errors (fields_text F.FORMAT (map absent (texts names.now)))
+            sink.old sink.new self.old self.new }
+    {
+        for name in names {
+            self.push(sink, name, Padding::Hidden, Shape::Trimmed, b"");
+        }
+    }
+
+    /// Adds the names of fields, if names stand before the rows.
+    pub fn push_names<W: WriteDevice>(&mut self, sink: &mut Sink<W>, names: &[&str])
+        requires short { IsTrue (are_short (texts names.now)) }
+        ensures { Adds W.contents W.write_errors (names_text F.FORMAT (texts names.now)) sink.old sink.new self.old self.new }
+    {
+        for name in names {
+            self.push_name(sink, name);
         }
     }
 }

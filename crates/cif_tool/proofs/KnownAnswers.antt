@@ -1,6 +1,7 @@
 -- What the commands answer, by what their calls answer: of bytes that are known.
 use Rattle.cif_tool.proofs.Names.{AreAllClashes, AreCompared, AreComparedAs, AreDifferences, AreNone, Asked, Bool, BytesSpellWithin}
 use Rattle.cif_tool.proofs.Names.{CalendarJob, CanonParts, CanonicalJob, Clash, CompareJob, DayJob, DifferencesParts, Err, ExplainJob}
+use Rattle.cif_rows.specs.declared.format.Format.TheVariants as rows
 use Rattle.cif_tool.proofs.Names.{ExtractLines, ExtractParts, Fault, Format, IfErr, IfSome, IsCalendarAnswer, IsCanonOfInput}
 use Rattle.cif_tool.proofs.Names.{IsCanonicalAnswer, IsClashesAnswer, IsClashlessRefusal, IsCompareAnswer, IsCompareFault, IsDayAnswer}
 use Rattle.cif_tool.proofs.Names.{IsDayFault, IsDiffAnswer, IsErrAnd, IsExplainAnswer, IsExplanation, IsListedStatus, IsNormaliseFault}
@@ -40,7 +41,7 @@ module _ (start : Option (List ℕ)) where
           canonical_text o c ≡ canonical_text o (record { text = c.text; lines = lines; counts = c.counts })
       same output.Extract lines are = refl
       same output.Counts lines are = refl
-      same (output.Table table) lines are = ap (table_text table) are
+      same (output.Table table) lines are = ap (table_text rows.Tsv table) are
 
   module _ (x : ExtractParts) (spelled : IfSome start (λ bytes. BytesSpellWithin MAX_LINES bytes x)) where
     pub day-answer : (job : DayJob) (text : List ℕ) → IsDayListing job.listing x job.day text →

@@ -14,6 +14,7 @@ use Rattle.cif_canon.specs.{Fault.IsReadNarrowedFault, Lines.lines_of, Normalise
 use Rattle.cif_canon.specs.{Pair.IsNarrowedPair, Pair.SpellPair, Views.IsDayFault, declared.asked.Asked.Asked}
 use Rattle.cif_canon.specs.{declared.canonical_form.Counts.Counts, declared.comparison.Comparison.Comparison, declared.rows.Format.Format}
 use Rattle.cif_canon.specs.{declared.rows.Format.TheVariants.Text, declared.rows.Format.TheVariants.Tsv}
+use Rattle.cif_rows.specs.declared.format.Format.TheVariants as rows
 use Rattle.cif_views.specs.{Clashes.AreAllClashes, Clashes.clashes_text, DifferenceTable.difference_table, Explanation.IsExplanation}
 use Rattle.cif_views.specs.{Explanation.IsExplanationFault, Listing.IsDayListing, Listing.IsTrainListing, TableText.table_text}
 use Rattle.cif_views.specs.{WeekCalendar.IsWeekCalendar}
@@ -54,7 +55,7 @@ OfBoth remaining IsAnswer left right =
 abbrev pub canonical_text : CanonicalOutput → CanonParts → List ℕ
 canonical_text output.Extract canon = canon.text
 canonical_text output.Counts canon = counts_line canon.counts
-canonical_text (output.Table table) canon = table_text table canon.lines
+canonical_text (output.Table table) canon = table_text rows.Tsv table canon.lines
 
 -- `normalise`, `check` and `table` answer these bytes by their canonical text, by how many records it has, and by a table of the extract
 -- that it is.
@@ -110,7 +111,7 @@ IsListedStatus None status = ((status ≡ 0) × None) ⊎ ((status ≡ 1) × ¬ 
 -- the text of differences in this format
 abbrev pub differences_in : Format → DifferencesParts → List ℕ
 differences_in Text differences = differences_text differences
-differences_in Tsv differences = difference_table differences
+differences_in Tsv differences = difference_table rows.Tsv differences
 
 -- `diff` answers two inputs by their differences in the window that is asked for, in this format.
 pub record IsDiffAnswer (format : Format) (job : CompareJob) (left_bytes right_bytes text : List ℕ) (status : ℕ) : Type 0 where

@@ -78,7 +78,7 @@ fn write_canonical<W: WriteDevice>(
     match output {
         CanonicalOutput::Extract => canon.write(sink),
         CanonicalOutput::Counts => write_counts(&canon.counts(), sink).map_err(Fault::from),
-        CanonicalOutput::Table(table) => write_table(canon, table, sink),
+        CanonicalOutput::Table(table) => write_table(canon, table, cif_rows::Format::Tsv, sink),
     }
 }
 
@@ -172,7 +172,7 @@ fn write_differences<W: WriteDevice>(
 {
     match format {
         Format::Text => found.write(sink),
-        Format::Tsv => write_difference_table(found, sink),
+        Format::Tsv => write_difference_table(found, cif_rows::Format::Tsv, sink),
     }
 }
 

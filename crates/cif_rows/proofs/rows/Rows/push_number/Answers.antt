@@ -1,5 +1,5 @@
 -- The digits are the number.
-use Rattle.cif_rows.proofs.Names.{Apart, List, Number, ap, arith, decimal, decimal_digit, field_text, sym, ℕ, ◌∙◌, ◌≡◌}
+use Rattle.cif_rows.proofs.Names.{Apart, List, Number, ap, arith, decimal_digit, field_text, sym, ℕ, ◌∙◌}
 use Rattle.cif_rows.proofs.AddedTexts.{added-is}
 use Rattle.itoa.proofs.Decimal.{decimal_two}
 use Rattle.cif_rows.proofs.rows.Rows.push_number.Goals as goal

@@ -1,0 +1,8 @@
+-- What is added are the names so far.
+use Rattle.cif_rows.proofs.Names.{Adds, name_text, flat_map, take}
+use Rattle.cif_rows.proofs.rows.Rows.push_names.Given as goal
+
+abbrev pub invariant-loop-name : goal.invariant-loop-name
+invariant-loop-name g l =
+    Adds g.W.Write.contents g.W.WriteDevice.write_errors
+    (flat_map (λ name. name_text g.F.RowFormat.FORMAT name.now) (take l.name-index l.names)) l.initial.sink l.sink l.initial.self l.self
