@@ -1,6 +1,6 @@
 -- The fields of the rows of differences, by what they begin with.
 use Rattle.cif_views.proofs.Names.{List, Option, Side, [], codes, decimal, difference_names, differing_row, drop, head_values, length, place_names}
-use Rattle.cif_views.proofs.Names.{place_values, refl, replicate, row_of_counts, single_row, ℕ, ◌++◌, ◌<◌, ◌∷◌, ◌≡◌}
+use Rattle.cif_views.proofs.Names.{place_values, refl, row_of_counts, single_row, ℕ, ◌++◌, ◌<◌, ◌∷◌, ◌≡◌}
 use Rattle.cif_views.proofs.Names.{change_on}
 use Rattle.cif_views.proofs.RowNames.{Field, Format, Value, all_named, fields_text, named, nothing, some-field, text}
 use Rattle.cif_views.specs.declared.difference_table.{Place.Place, Place.TheVariants.Journey, Place.TheVariants.Record}

@@ -4,7 +4,7 @@ use Rattle.cif_views.proofs.Names.{StandsIn, TableFields, [], and_parts, ap, ap�
 use Rattle.cif_views.proofs.Names.{differing_row, differing_rows, drop, drop-drop, drop-take, eqb-true, false, false≢true, field_row}
 use Rattle.cif_views.proofs.Names.{field_rows, get_or, if◌then◌else◌, leb-true, length, length-columns, length-take-le, map, nat_eq, nat_le}
 use Rattle.cif_views.proofs.Names.{nat_lt, or_cases, pointwise, refl, replicate, row_values, span_in, spare, subst, sym, take, take-add}
-use Rattle.cif_views.proofs.Names.{take-take, true, used, value_in, values_in, yymmdd_from, ℕ, ⊎_elim, ◌&&◌, ◌++◌, ◌+◌, ◌-◌, ◌<◌, ◌||◌}
+use Rattle.cif_views.proofs.Names.{take-take, true, used, value_in, values_in, yymmdd_from, ℕ, ⊎_elim, ◌&&◌, ◌++◌, ◌+◌, ◌-◌, ◌||◌}
 use Rattle.cif_views.proofs.Names.{◌∙◌, ◌∷◌, ◌≡◌, ◌≤◌}
 use Rattle.cif_columns.proofs.KeptLines.{trimmed as widened, used_few}
 use Rattle.cif_views.proofs.RowNames.{Value, cell_of, long_date, trimmed}

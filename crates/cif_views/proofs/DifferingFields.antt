@@ -2,8 +2,8 @@
 use Rattle.cif_views.proofs.Names.{Bool, Bor, Change, Column, FieldPlace, IsTrue, JourneyKind, List, Other, Stop, TableFields, [], and_parts}
 use Rattle.cif_views.proofs.Names.{ap, append_assoc, ap₂, are_texts, arith, bytes_decides, call_columns, change_columns, column, column_names}
 use Rattle.cif_views.proofs.Names.{columns, columns_of, cond, count_of_calls, differing_row, differing_rows, drop, false, false≢true, field_row}
-use Rattle.cif_views.proofs.Names.{field_rows, find, flat_map, get_or, if◌then◌else◌, in_journey, is_call, is_change, is_identity, is_span}
-use Rattle.cif_views.proofs.Names.{is_text, is_text_place, is_within, journey_kind, kind_of_line, kinds, length, map, names, nat_eq, nat_le}
+use Rattle.cif_views.proofs.Names.{field_rows, find, get_or, if◌then◌else◌, in_journey, is_call, is_change, is_identity, is_span}
+use Rattle.cif_views.proofs.Names.{is_text, is_text_place, is_within, journey_kind, kind_of_line, kinds, length, names, nat_eq, nat_le}
 use Rattle.cif_views.proofs.Names.{own_call_fields, own_change_fields, own_fields, pointwise, refl, row_values, rows_of_place, rows_of_places}
 use Rattle.cif_views.proofs.Names.{same_places, slice_index_or, span_in, subst, suc, sym, take, take-take, true, value_in, values_in, zero, ℕ}
 use Rattle.cif_views.proofs.Names.{◌&&◌, ◌++◌, ◌+◌, ◌<◌, ◌∙◌, ◌∷◌, ◌≡◌}

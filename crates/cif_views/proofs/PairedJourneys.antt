@@ -1,16 +1,15 @@
 -- The rows of pairs, as they are written: of their fields, and of their journeys by lines.
-use Rattle.cif_views.proofs.Names.{Bool, Column, IsTrue, Left, List, Numbered, Option, Other, ScheduleLines, Some, TableFields, []}
+use Rattle.cif_views.proofs.Names.{Bool, IsTrue, Left, List, Numbered, Other, ScheduleLines, Some, []}
 use Rattle.cif_views.proofs.Names.{and_parts, ap, ap₂, arith, association_columns, association_differences, association_head}
-use Rattle.cif_views.proofs.Names.{basic_columns, bytes_decides, call_count, category_fields, changed, codes, column_names, columns, cond}
-use Rattle.cif_views.proofs.Names.{count_of_calls, decimal, detail_fields, differing_row, differing_rows, drop, extra_columns, extra_fields}
+use Rattle.cif_views.proofs.Names.{basic_columns, bytes_decides, call_count, category_fields, changed, codes, columns, cond}
+use Rattle.cif_views.proofs.Names.{count_of_calls, detail_fields, differing_row, drop, extra_columns, extra_fields}
 use Rattle.cif_views.proofs.Names.{extra_identity, extra_in, false, field_rows, flat_map-append, if◌then◌else◌, in_record, is_call}
-use Rattle.cif_views.proofs.Names.{journey_differences, kind_of_line, length, map, names, nat_eq, numbered_from, place_columns, place_rows}
-use Rattle.cif_views.proofs.Names.{pointwise, refl, replicate, row_of_counts, row_values, rows_of_journeys, rows_of_places, same_places}
-use Rattle.cif_views.proofs.Names.{schedule_differences, schedule_head, sym, take, true, type_fields, values_in, without_extra, ℕ, ◌++◌, ◌+◌}
+use Rattle.cif_views.proofs.Names.{journey_differences, kind_of_line, length, map, nat_eq, numbered_from, place_columns, place_rows}
+use Rattle.cif_views.proofs.Names.{pointwise, refl, row_of_counts, rows_of_journeys, rows_of_places, same_places}
+use Rattle.cif_views.proofs.Names.{schedule_differences, schedule_head, sym, take, true, type_fields, without_extra, ℕ, ◌++◌, ◌+◌}
 use Rattle.cif_views.proofs.Names.{◌∙◌, ◌∷◌, ◌≡◌}
-use Rattle.cif_views.proofs.RowNames.{Value, cell_of, nothing, text}
+use Rattle.cif_views.proofs.RowNames.{Value, cell_of}
 use Rattle.cif_views.proofs.DifferingFields.{differing, place-rows, same-kind}
-use Rattle.cif_views.specs.DifferenceTable.{journey_of}
 
 -- ---- the lines of two journeys, numbered
 

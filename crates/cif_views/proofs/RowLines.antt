@@ -1,7 +1,7 @@
 -- The text of rows tells their cells, and these tell the plain lines.
 use Rattle.cif_views.proofs.Names.{All, All-cons, All-drop, All-head, All-nil, All-tail, All-take, AllFit, ArePrintable, Bool, Column}
 use Rattle.cif_views.proofs.Names.{FieldPlace, IsLine, IsPrintable, IsTrue, JourneyKind, List, Other, Row, TableFields, [], and_parts}
-use Rattle.cif_views.proofs.Names.{ap, append_assoc, ap₂, are_within, arith, bytes_decides, codes, columns, decimal, decimal_is_IsNumeral}
+use Rattle.cif_views.proofs.Names.{ap, append_assoc, ap₂, are_within, arith, bytes_decides, columns, decimal, decimal_is_IsNumeral}
 use Rattle.cif_views.proofs.Names.{drop, drop_at, eqb-true, false, false≢true, flat_map, is_span, is_whole_from, is_within}
 use Rattle.cif_views.proofs.Names.{leb-true, length, length-append, length-columns, length-map, line-plain_line, map, names, nat_eq, nat_le}
 use Rattle.cif_views.proofs.Names.{or_cases, plain_columns, plain_line, pointwise, refl, row_of, row_values, span_in, subst, suc, sym, take}

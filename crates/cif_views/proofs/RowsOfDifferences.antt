@@ -4,13 +4,13 @@ use Rattle.cif_views.proofs.Names.{AssocKey, Association, BodyLines, BodyRuns, B
 use Rattle.cif_views.proofs.Names.{Contains-cases, Contains-first, Contains-none, Contains-rest, DifferencesParts, ExtractParts, HasRow}
 use Rattle.cif_views.proofs.Names.{HaveRows, IfSome, IsAccepted, IsAlignedTwo, IsBody, IsWithin, Left, List, Listed, None, OnlySays, Option}
 use Rattle.cif_views.proofs.Names.{Ordering, Permanent, Right, RunsOn, Schedule, ScheduleFits, ScheduleLines, Side, Sided, Some, Terms, Two}
-use Rattle.cif_views.proofs.Names.{Window, [], ap, arith, association_differences, association_entries, association_entry, association_head}
-use Rattle.cif_views.proofs.Names.{association_lines, association_plain, associations-by_pairs, at_side, basic_rows, by_pairs, change_of}
+use Rattle.cif_views.proofs.Names.{Window, [], ap, arith, association_differences, association_entries, association_entry}
+use Rattle.cif_views.proofs.Names.{association_lines, association_plain, associations-by_pairs, at_side, basic_rows, by_pairs}
 use Rattle.cif_views.proofs.Names.{contents_of, detail_of, difference_rows, flat_map, header_window, key_cmp, length}
 use Rattle.cif_views.proofs.Names.{listed_as, map, nat_cmp, of_key, of_side, option_map}
-use Rattle.cif_views.proofs.Names.{parts_of, refl, replicate, schedule_differences, schedule_entries, schedule_entry, schedule_head}
+use Rattle.cif_views.proofs.Names.{parts_of, refl, schedule_differences, schedule_entries, schedule_entry}
 use Rattle.cif_views.proofs.Names.{schedule_lines, schedule_plain, schedules-by_pairs, side-member, slice_cmp, spelled-fits, subst, sym}
-use Rattle.cif_views.proofs.Names.{tiploc_head, tiploc_lines, tiploc_row, weekday_of, ℕ, ⊎_elim, ◌++◌, ◌<◌, ◌↔◌, ◌∙◌, ◌∷◌, ◌≡◌, ◌≤◌}
+use Rattle.cif_views.proofs.Names.{tiploc_lines, tiploc_row, weekday_of, ℕ, ⊎_elim, ◌++◌, ◌<◌, ◌↔◌, ◌∙◌, ◌∷◌, ◌≡◌, ◌≤◌}
 use Rattle.cif_records.proofs.Headers as headers
 use Rattle.cif_records.specs.Association as aa
 use Rattle.cif_weeks.specs.Applies.{Applies}

@@ -1,7 +1,7 @@
 -- Schedules with the same rows in the tables of schedules, calls and changes are the same.
 use Rattle.cif_views.proofs.Names.{All, All-append, All-cons, All-filter, All-head, All-nil, All-tail, BodyLines, Bool, Each}
 use Rattle.cif_views.proofs.Names.{Extra, IsLine, JourneyKind, List, None, Numbered, NumberedSchedule, Option, Other, Permanent, RecordFits}
-use Rattle.cif_views.proofs.Names.{ScheduleLines, Some, [], ap, arith, basic_columns, columns, cond, decimal, decimal_injective, drop}
+use Rattle.cif_views.proofs.Names.{ScheduleLines, Some, [], ap, arith, basic_columns, columns, cond, decimal_injective, drop}
 use Rattle.cif_views.proofs.Names.{enumerate_from, extra_columns, extra_fields, extra_in, extra_records, false, filter, filter_passes}
 use Rattle.cif_views.proofs.Names.{flat_map, get_or, has_row, is_call, journey_kind, journey_records, kind_of_line, length, map}
 use Rattle.cif_views.proofs.Names.{numbered_from, numbered_schedule, parts_in, plain_line, record_table, refl, row_values, schedule_fields}

@@ -4,7 +4,7 @@ use Rattle.cif_views.proofs.Names.{Association, Associations, BodyLines, Bool, B
 use Rattle.cif_views.proofs.Names.{ExtractParts, Form, IsCanonOf, IsCanonicalOf, List, Permanent, Public, Row, SameMeaning, Schedule}
 use Rattle.cif_views.proofs.Names.{ScheduleFits, ScheduleLines, Schedules, Table, Terms, Tiplocs, [], ap, append_cancel_left, arith}
 use Rattle.cif_views.proofs.Names.{association_columns, association_entries, association_entry, basic_rows, contents_of, detail_of}
-use Rattle.cif_views.proofs.Names.{enumerate_from, extract_text, extracts-unique, false, flat_map, flat_map-append, flat_map-map}
+use Rattle.cif_views.proofs.Names.{enumerate_from, extract_text, extracts-unique, false, flat_map, flat_map-map}
 use Rattle.cif_views.proofs.Names.{further_lines, header_fields, header_table, length, length-append, line_of_association, line_of_tiploc}
 use Rattle.cif_views.proofs.Names.{lines_of_schedule, lines_text, map, numbered_schedule, one_spelled, option_map, over, permanent_entries}
 use Rattle.cif_views.proofs.Names.{plain_line, plain_lines_of, refl, row_of, schedule_entries, schedule_entry, schedule_fields}

@@ -1,15 +1,14 @@
 -- The rows of tables, as they are made field by field.
 use Rattle.cif_views.proofs.Names.{Bool, Bor, Calls, Change, Changes, Column, ExtractLines, FieldPlace, IsTrue, JourneyKind, List, Numbered}
-use Rattle.cif_views.proofs.Names.{Option, Other, Public, ScheduleLines, Schedules, Stop, Table, [], and_parts, ap, append-nil}
-use Rattle.cif_views.proofs.Names.{append_assoc, are_within, arith, at_drop_all, call_columns, call_fields, change_columns}
+use Rattle.cif_views.proofs.Names.{Other, Public, ScheduleLines, Schedules, Stop, Table, [], and_parts, ap, append-nil}
+use Rattle.cif_views.proofs.Names.{append_assoc, are_within, arith, at_drop_all, call_columns, call_fields}
 use Rattle.cif_views.proofs.Names.{change_fields, column, columns_of, cond, drop, enumerate_from, false, fields_in, filter, flat_map}
-use Rattle.cif_views.proofs.Names.{flat_map-append, get_or, inl, inr, is_call, is_change, is_within, journey_columns, journey_rows}
-use Rattle.cif_views.proofs.Names.{kind_of_line, length, map, nat_tests, numbered_from, own_call_fields, refl, room_for, room_of, row_of}
+use Rattle.cif_views.proofs.Names.{flat_map-append, get_or, inl, inr, is_call, is_change, is_within, journey_rows}
+use Rattle.cif_views.proofs.Names.{kind_of_line, length, map, nat_tests, numbered_from, own_call_fields, refl, room_for, row_of}
 use Rattle.cif_views.proofs.Names.{row_of_kind, row_values, rows_of, schedule_rows, slice_index_or, subst, suc, sym, table_rows, true, values_in}
 use Rattle.cif_views.proofs.Names.{zero, ℕ, ◌++◌, ◌+◌, ◌<◌, ◌==◌, ◌∙◌, ◌∷◌, ◌≡◌, ◌≤◌, ◌⊎◌}
 use Rattle.cif_views.proofs.RowNames.{Field, Format, Value, all_named, field_text, fields_text, number, some-field}
 use Rattle.cif_views.proofs.Names.{decimal, names, take}
-use Rattle.cif_columns.specs.declared.sink.Sink.{Sink}
 use Rattle.cif_views.specs.declared.columns.JourneyKind.TheVariants.{Origin, Terminus}
 
 -- ---- the columns of a table

@@ -87,21 +87,24 @@ module _ {B : Type 0} (records : Records B) (lawful : AreLawful records) (d : �
 
 -- ---- the whole text
 
-pub is-calendar : (x : ExtractParts) (u : List ℕ) (first last : ℕ) (states : List DayState) → first ≡ x.header.first → last ≡ x.header.last
-    → AreDayStates (of_key (schedule_entries x.schedules) u) first (last + 1) states
-    → IsWeekCalendar x u (calendar_text first last (state_in first states))
-is-calendar x u first last states from upto a = record {
-  state_on = state_in first states;
-  states = λ d low high.
+module _ (x : ExtractParts) (u : List ℕ) (first last : ℕ) (states : List DayState) (from : first ≡ x.header.first) (upto : last ≡ x.header.last)
+    (a : AreDayStates (of_key (schedule_entries x.schedules) u) first (last + 1) states) where
+  pub stands-on : (d : ℕ) → x.header.first ≤ d → d ≤ x.header.last → IsDayState (of_key (schedule_entries x.schedules) u) d (state_in first states d)
+  stands-on d low high =
       let start : first ≡ x.header.first = from in
       let end : last ≡ x.header.last = upto in
       let many : first + length states ≡ last + 1 = a.many in
       let below : d - first < length states = omega arith in
       let day : first + (d - first) ≡ d = omega arith in
-      subst (λ n. IsDayState (of_key (schedule_entries x.schedules) u) n (state_in first states d)) day (a.each (d - first) below);
-  text_is = ap (λ n. calendar_text n last (state_in first states)) from
-      ∙ ap (λ n. calendar_text x.header.first n (state_in first states)) upto;
-}
+      subst (λ n. IsDayState (of_key (schedule_entries x.schedules) u) n (state_in first states d)) day (a.each (d - first) below)
+
+  pub is-calendar : IsWeekCalendar x u (calendar_text first last (state_in first states))
+  is-calendar = record {
+    state_on = state_in first states;
+    states = stands-on;
+    text_is = ap (λ n. calendar_text n last (state_in first states)) from
+        ∙ ap (λ n. calendar_text x.header.first n (state_in first states)) upto;
+  }
 
 -- ---- a date in the text
 

@@ -1,6 +1,7 @@
 pub mod AllFields
 pub mod Calls
 pub mod Clashes
+pub mod DateCalendar
 pub mod DifferenceTable
 pub mod Explanation
 pub mod Listing

@@ -40,7 +40,7 @@ pub fn week_calendar<W: WriteDevice>(
 }
 
 /// What stands on each date of the window, by the schedules of the train.
-fn states_of_train(
+pub(crate) fn states_of_train(
     alloc: Global,
     schedules: &[Schedule],
     uid: &Uid,
@@ -134,7 +134,7 @@ fn cell(states: &[DayState], window: &Window, week: u32, weekday: u8) -> u8
 }
 
 /// The character of a date.
-fn character(state: DayState) -> u8
+pub(crate) fn character(state: DayState) -> u8
     ensures { result ≡ character state }
 {
     match state {

@@ -15,10 +15,10 @@ ghost use Rattle.cif_views.specs.Steps.DifferenceHeads.{IsShortPlace, change_on,
 ghost use Rattle.cif_views.specs.declared.difference_table.RecordKind.TheVariants.{Association};
 
 use crate::columns::{
-    ASSOCIATION, ASSOCIATION_HEAD, BASIC, BASIC_HEAD, CALL, CHANGE, Column, ColumnRange, DIFFERENCE,
-    EXTRA, JourneyKind, TIPLOC_HEAD, call_after, extra_among, kind_of_line, span_in,
+    ASSOCIATION, ASSOCIATION_HEAD, BASIC, BASIC_HEAD, CALL, CHANGE, Column, ColumnRange,
+    DIFFERENCE, EXTRA, JourneyKind, TIPLOC_HEAD, call_after, extra_among, kind_of_line, span_in,
 };
-use crate::line_fields::{columns_in, push_each, push_names};
+use crate::line_fields::{columns_in, push_each, push_names, push_nothing};
 use cif_canon::writing::{Texts, answer};
 use cif_canon::{CanonSchedule, Differences, ListedRecord, Side, Sided};
 use cif_columns::{Line, LineSlice, Sink, Uid, WriteDevice, columns_at, used_columns};
@@ -191,14 +191,6 @@ fn write_single<F: RowFormat, W: WriteDevice>(
     rows.finish(sink);
 }
 
-/// Adds an empty field.
-fn push_nothing<F: RowFormat, W: WriteDevice>(rows: &mut Rows<F>, name: &str, sink: &mut Sink<W>)
-    requires { length name.now ≤ 100 }
-    ensures { Adds W.contents W.write_errors (field_text F.FORMAT (named name.now nothing)) sink.old sink.new rows.old rows.new }
-{
-    rows.push(sink, name, Padding::Apart, Shape::Trimmed, b"");
-}
-
 /// Adds a text, which doesn't end in a space.
 fn push_text<F: RowFormat, W: WriteDevice>(
     rows: &mut Rows<F>,
@@ -225,11 +217,7 @@ fn change_of(side: Option<Side>) -> &'static str
 }
 
 /// Adds the fields up to the days run.
-fn push_head<F: RowFormat, W: WriteDevice>(
-    rows: &mut Rows<F>,
-    head: &Head,
-    sink: &mut Sink<W>,
-)
+fn push_head<F: RowFormat, W: WriteDevice>(rows: &mut Rows<F>, head: &Head, sink: &mut Sink<W>)
     ensures { Adds W.contents W.write_errors
         (fields_text F.FORMAT (all_named difference_names (head_values head.now.kind head.now.side head.now.line)))
         sink.old sink.new rows.old rows.new }
@@ -242,7 +230,13 @@ fn push_head<F: RowFormat, W: WriteDevice>(
         }
         RecordKind::Association => {
             push_text(rows, "kind", "AA", sink);
-            push_each(rows, &ASSOCIATION_HEAD, JourneyKind::Other, &head.line, sink);
+            push_each(
+                rows,
+                &ASSOCIATION_HEAD,
+                JourneyKind::Other,
+                &head.line,
+                sink,
+            );
         }
         RecordKind::Schedule => {
             push_text(rows, "kind", "BS", sink);
@@ -252,11 +246,7 @@ fn push_head<F: RowFormat, W: WriteDevice>(
 }
 
 /// Adds the fields that say where in a record a field stands.
-fn push_place<F: RowFormat, W: WriteDevice>(
-    rows: &mut Rows<F>,
-    place: &Place,
-    sink: &mut Sink<W>,
-)
+fn push_place<F: RowFormat, W: WriteDevice>(rows: &mut Rows<F>, place: &Place, sink: &mut Sink<W>)
     requires { IsShortPlace place.now }
     ensures { Adds W.contents W.write_errors (fields_text F.FORMAT (all_named place_names (place_values place.now)))
         sink.old sink.new rows.old rows.new }
@@ -342,7 +332,13 @@ fn write_schedules<F: RowFormat, W: WriteDevice>(
     write_differing(&mut rows, &in_basic, &BASIC[4..], &basics, sink);
     write_differing(&mut rows, &in_basic, &EXTRA[..1], &extras, sink);
     write_differing(&mut rows, &in_extra, &EXTRA[1..], &extras, sink);
-    write_journeys(&mut rows, &head, &journey_among(lefts), &journey_among(rights), sink);
+    write_journeys(
+        &mut rows,
+        &head,
+        &journey_among(lefts),
+        &journey_among(rights),
+        sink,
+    );
     rows.finish(sink);
 }
 
@@ -384,7 +380,10 @@ fn write_field<F: RowFormat, W: WriteDevice>(
     if one == other {
         return;
     }
-    let (left, right) = (columns_in(&lines.left, span), columns_in(&lines.right, span));
+    let (left, right) = (
+        columns_in(&lines.left, span),
+        columns_in(&lines.right, span),
+    );
     rows.begin_row(sink);
     push_head(rows, &start.head, sink);
     push_place(rows, &start.place, sink);

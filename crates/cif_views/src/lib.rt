@@ -2,6 +2,7 @@
 //! clash, and what runs, as text or as tables.
 #![tactic(auto)]
 
+mod calendar_dates;
 mod calendar_weeks;
 mod calls;
 mod clash_list;
@@ -18,6 +19,7 @@ mod moment;
 mod public_calls;
 mod tables;
 
+pub use calendar_dates::date_calendar;
 pub use calendar_weeks::week_calendar;
 pub use clash_list::Clashes;
 pub use difference_table::write_difference_table;

@@ -1,7 +1,7 @@
 //! The fields of lines, as a row has them.
 ghost use Rattle.std.specs.Prelude.{◌≡◌, ◌≤◌, ◌+◌, ◌*◌, ◌-◌, ◌++◌, IsTrue, length};
 ghost use Rattle.cif_columns.specs.Field.{columns};
-ghost use Rattle.cif_rows.specs.{Adds.Adds, declared.shape.Padding.TheVariants.Apart};
+ghost use Rattle.cif_rows.specs.{Adds.Adds, Row.named, Row.nothing, declared.shape.Padding.TheVariants.Apart};
 ghost use Rattle.cif_rows.specs.Steps.{IsOfShape, field_text, fields_text, names_text, width_of};
 ghost use Rattle.cif_views.specs.Steps.Columns.{are_within, column, column_names, columns_of, field_in, fields_in, is_span, is_within};
 ghost use Rattle.cif_views.specs.Steps.Columns.{room_for, room_of};
@@ -131,4 +131,16 @@ fn year_first(ddmmyy: &[u8]) -> [u8; 6]
     [
         ddmmyy[4], ddmmyy[5], ddmmyy[2], ddmmyy[3], ddmmyy[0], ddmmyy[1],
     ]
+}
+
+/// Adds an empty field.
+pub(crate) fn push_nothing<F: RowFormat, W: WriteDevice>(
+    rows: &mut Rows<F>,
+    name: &str,
+    sink: &mut Sink<W>,
+)
+    requires { length name.now ≤ 100 }
+    ensures { Adds W.contents W.write_errors (field_text F.FORMAT (named name.now nothing)) sink.old sink.new rows.old rows.new }
+{
+    rows.push(sink, name, Padding::Apart, Shape::Trimmed, b"");
 }

@@ -181,7 +181,13 @@ impl Moment {
         let mut text = ArrayString::<LONGEST_TIME>::new();
         text.push_str(Buffer::new().format(hours / 100));
         text.push_str(as_text(&clock_text((hours % 100) as u8, self.seconds)));
-        rows.push(sink, name, Padding::Apart, Shape::Whole, text.as_str().as_bytes());
+        rows.push(
+            sink,
+            name,
+            Padding::Apart,
+            Shape::Whole,
+            text.as_str().as_bytes(),
+        );
     }
 }
 

@@ -189,7 +189,13 @@ fn write_schedule<F: RowFormat, W: WriteDevice>(
     rows.begin_row(sink);
     rows.push_number(sink, "schedule", number);
     let extra = extra_among(&schedule.further());
-    push_each(&mut rows, &BASIC, JourneyKind::Other, &schedule.basic(), sink);
+    push_each(
+        &mut rows,
+        &BASIC,
+        JourneyKind::Other,
+        &schedule.basic(),
+        sink,
+    );
     push_each(&mut rows, &EXTRA, JourneyKind::Other, &extra, sink);
     rows.end_row(sink);
     rows.finish(sink);

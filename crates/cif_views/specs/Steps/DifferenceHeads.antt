@@ -1,5 +1,5 @@
 -- What the rows of differences begin with, as the code has it. No public clause cites it.
-use Rattle.std.specs.Prelude.{List, [], None, Option, Some, codes, drop, length, take, ℕ, ⊤, ◌++◌, ◌∷◌, ◌≤◌}
+use Rattle.std.specs.Prelude.{List, [], None, Option, Some, drop, length, take, ℕ, ⊤, ◌++◌, ◌∷◌, ◌≤◌}
 use Rattle.cif_canon.specs.declared.listed_differences.Side.{Side}
 use Rattle.cif_rows.specs.Row.{Value, nothing, number, text}
 use Rattle.cif_views.specs.DifferenceTable.{association_head, change_of, changed, difference_names, schedule_head, tiploc_head}

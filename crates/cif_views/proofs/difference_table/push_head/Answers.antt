@@ -1,5 +1,5 @@
 -- The change and the kind, and then the columns.
-use Rattle.cif_views.proofs.Names.{List, Option, Side, [], ap, change_on, codes, drop, ℕ, ◌++◌, ◌∷◌, ◌≡◌}
+use Rattle.cif_views.proofs.Names.{List, Option, Side, [], ap, change_on, codes, drop, ℕ, ◌∷◌, ◌≡◌}
 use Rattle.cif_views.proofs.RowNames.{Adds, Field, Format, added-is, field-added, field_text, fields-added, fields_text, named, text}
 use Rattle.cif_columns.specs.declared.sink.Sink.{Sink}
 use Rattle.cif_views.proofs.DifferenceFields.{head_fields}

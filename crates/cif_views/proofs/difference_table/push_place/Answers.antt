@@ -1,6 +1,6 @@
 -- Three fields, by the place.
-use Rattle.cif_views.proofs.Names.{List, Option, [], ap, codes, ℕ, ◌∷◌}
-use Rattle.cif_views.proofs.RowNames.{Field, added-is, field_text, named, number_field, text, three-fields}
+use Rattle.cif_views.proofs.Names.{List, ap, codes, ℕ}
+use Rattle.cif_views.proofs.RowNames.{added-is, field_text, named, text, three-fields}
 use Rattle.cif_views.specs.Tables.{text_at}
 use Rattle.cif_views.proofs.difference_table.push_place.Goals as goal
 

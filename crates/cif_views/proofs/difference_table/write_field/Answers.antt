@@ -1,6 +1,6 @@
 -- The cells are as one (`same-cells`), or else they have a row (`other-cells`).
-use Rattle.cif_views.proofs.Names.{List, [], and_parts, ap, append-nil, arith, codes, column, columns, field_row, leb-true, length, nat_le, sym, value_in}
-use Rattle.cif_views.proofs.Names.{head_values, place_values, rows_text, start_values, ℕ, ◌++◌, ◌∙◌, ◌∷◌}
+use Rattle.cif_views.proofs.Names.{[], ap, append-nil, arith, codes, column, sym, value_in}
+use Rattle.cif_views.proofs.Names.{rows_text, start_values, ◌++◌, ◌∙◌}
 use Rattle.cif_views.proofs.DifferenceFields.{field-row, head_fields, place_fields, said_last, some-head}
 use Rattle.cif_views.proofs.DifferingFields.{other-cells, same-cells, text-span, text-values}
 use Rattle.cif_views.proofs.RowNames.{Value, added-is, added-waits, field_text, fields-added, named, row-added, row_text, three-fields}

@@ -1,9 +1,9 @@
 -- Journeys with other places have one row, with the numbers of their calls; others have the rows of their places.
-use Rattle.cif_views.proofs.Names.{Bool, IsTrue, List, [], ap, append-nil, codes, cond, count_of_calls, decimal, difference_text, false, head_of}
-use Rattle.cif_views.proofs.Names.{head_values, row_of_counts, rows_of_journeys, rows_of_places, rows_text, same_places, sym, true, ℕ, ◌++◌}
+use Rattle.cif_views.proofs.Names.{Bool, List, [], ap, append-nil, codes, cond, count_of_calls, decimal, difference_text, false, head_of}
+use Rattle.cif_views.proofs.Names.{row_of_counts, rows_of_journeys, rows_of_places, rows_text, same_places, sym, true, ℕ, ◌++◌}
 use Rattle.cif_views.proofs.Names.{◌∙◌, ◌∷◌, ◌≡◌}
 use Rattle.cif_views.proofs.DifferenceFields.{count-row, head_fields, no_place, said_last, some-head}
-use Rattle.cif_views.proofs.RowNames.{Value, added-is, field_text, fields-added, named, row-added, row_text, text, three-fields}
+use Rattle.cif_views.proofs.RowNames.{Value, added-is, fields-added, named, row-added, row_text, text, three-fields}
 use Rattle.cif_views.proofs.difference_table.write_journeys.Goals as goal
 
 by-places : (head : List Value) (lefts rights : List (List ℕ)) (same : Bool) → same_places lefts rights ≡ same →

@@ -1,5 +1,5 @@
 -- Six empty fields go after the first ones.
-use Rattle.cif_views.proofs.Names.{[], ap, sym, ◌++◌}
+use Rattle.cif_views.proofs.Names.{ap, sym, ◌++◌}
 use Rattle.cif_views.proofs.DifferenceFields.{head_fields, no_place, nothing_last, single, some-head}
 use Rattle.cif_views.proofs.RowNames.{added-is, all-written, fields-added, row-added, row_text, three-fields}
 use Rattle.cif_views.proofs.difference_table.write_single.Goals as goal

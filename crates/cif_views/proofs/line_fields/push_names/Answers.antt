@@ -1,5 +1,5 @@
 -- One name more (`one-added`), until none is left (`all-added`).
-use Rattle.cif_views.proofs.Names.{[], arith, column, column_names, columns_of, flat_map-map, sym, ◌∙◌, ◌≤◌, ◌+◌}
+use Rattle.cif_views.proofs.Names.{[], arith, column, columns_of, flat_map-map, sym, ◌∙◌}
 use Rattle.cif_views.proofs.RowNames.{added-is, all-added, name_text, one-added}
 use Rattle.cif_views.proofs.TableRows.{name-at}
 use Rattle.cif_views.specs.declared.columns.FieldPlace.TheVariants.{Text}

@@ -1,5 +1,5 @@
 -- The fields go one after another (`more-fields`).
-use Rattle.cif_views.proofs.Names.{List, call_columns, drop, fields_in, take, ℕ}
+use Rattle.cif_views.proofs.Names.{List, call_columns, fields_in, take, ℕ}
 use Rattle.cif_views.proofs.RowNames.{Field}
 use Rattle.cif_views.proofs.TableRows.{first-field, more-fields}
 use Rattle.cif_views.proofs.tables.push_fields_of_call.Goals as goal

@@ -1,6 +1,6 @@
 -- The table has a row of the line (`row-added`), or none.
 use Rattle.cif_views.proofs.Names.{Bool, JourneyKind, List, [], ap, append-nil, codes, cond, fields_in, flat_map, has_row, journey_columns}
-use Rattle.cif_views.proofs.Names.{refl, row_of_kind, sym, ℕ, ◌++◌, ◌∙◌, ◌∷◌, ◌≡◌}
+use Rattle.cif_views.proofs.Names.{refl, row_of_kind, sym, ℕ, ◌∙◌, ◌∷◌, ◌≡◌}
 use Rattle.cif_views.proofs.RowNames.{Field, Number, added-is, added-waits, field-added, fields-added, named, number_field, row-added, row_text}
 use Rattle.cif_views.proofs.RowNames.{some-field}
 use Rattle.cif_views.proofs.tables.write_numbered.Goals as goal

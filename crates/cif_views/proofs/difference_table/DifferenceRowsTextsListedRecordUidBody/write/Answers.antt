@@ -1,10 +1,10 @@
 -- What only one side has is a row; a pair has the rows of its fields.
-use Rattle.cif_views.proofs.Names.{AssocBody, AssocKey, BodyLines, List, Listed, None, Option, Permanent, Some, [], ap, append-nil, association_differences}
-use Rattle.cif_views.proofs.Names.{association_plain, category_fields, codes, difference_text, differing_rows, head_values, in_record}
-use Rattle.cif_views.proofs.Names.{listed_as, rows_text, schedule_differences, schedule_plain, single_row, sym, type_fields, ℕ, ◌++◌, ◌∙◌}
+use Rattle.cif_views.proofs.Names.{BodyLines, List, Listed, Option, Permanent, Some, ap, append-nil}
+use Rattle.cif_views.proofs.Names.{difference_text, head_values}
+use Rattle.cif_views.proofs.Names.{listed_as, rows_text, schedule_differences, schedule_plain, single_row, sym, ℕ, ◌∙◌}
 use Rattle.cif_canon.proofs.AppendedTexts.{text-is}
 use Rattle.cif_views.proofs.RowNames.{Value}
-use Rattle.cif_views.specs.declared.difference_table.RecordKind.TheVariants.{Association, Schedule}
+use Rattle.cif_views.specs.declared.difference_table.RecordKind.TheVariants.{Schedule}
 use Rattle.cif_views.proofs.difference_table.DifferenceRowsTextsListedRecordUidBody.write.Goals as goal
 
 abbrev Record : Type 0
