@@ -46,7 +46,13 @@ _cif() {
     if [[ -n $awaited ]]; then
         case $awaited in
         --form) _cif_offer '1 2 3' ;;
-        --format) _cif_offer 'text tsv' ;;
+        --format)
+            case $command in
+            table) _cif_offer 'tsv json' ;;
+            diff | clashes | calendar) _cif_offer 'text tsv json' ;;
+            *) _cif_offer 'text tsv' ;;
+            esac
+            ;;
         --holidays) compopt -o default ;;
         esac
         return
@@ -54,12 +60,13 @@ _cif() {
     if [[ -z $ended && $written == -* ]]; then
         case $command in
         '') options='-h --help -V --version' ;;
-        normalise | table) options='-v --verbose --from --to --form -h --help' ;;
+        normalise) options='-v --verbose --from --to --form -h --help' ;;
+        table) options='-v --verbose --from --to --form --format -h --help' ;;
         check) options='-v --verbose --from --to --form --all -h --help' ;;
         train) options='-v --verbose --from --to --form --stops --format -h --help' ;;
         compare) options='-v --verbose --from --to --common -h --help' ;;
         diff) options='-v --verbose --from --to --common --format -h --help' ;;
-        clashes | calendar) options='-v --verbose --from --to -h --help' ;;
+        clashes | calendar) options='-v --verbose --from --to --format -h --help' ;;
         day) options='-v --verbose --stops --format -h --help' ;;
         explain) options='-v --verbose --format -h --help' ;;
         prepare) options='-v --verbose --holidays --drop-clashes -h --help' ;;

@@ -1,15 +1,16 @@
 -- What the commands answer, by what their calls answer: of bytes that are known.
 use Rattle.cif_tool.proofs.Names.{AreAllClashes, AreCompared, AreComparedAs, AreDifferences, AreNone, Asked, Bool, BytesSpellWithin}
 use Rattle.cif_tool.proofs.Names.{CalendarJob, CanonParts, CanonicalJob, Clash, CompareJob, DayJob, DifferencesParts, Err, ExplainJob}
-use Rattle.cif_rows.specs.declared.format.Format.TheVariants as rows
-use Rattle.cif_tool.proofs.Names.{ExtractLines, ExtractParts, Fault, Format, IfErr, IfSome, IsCalendarAnswer, IsCanonOfInput}
+use Rattle.cif_tool.proofs.Names.{ExtractLines, ExtractParts, Fault, IfErr, IfSome, IsCalendarAnswer, IsCanonOfInput}
 use Rattle.cif_tool.proofs.Names.{IsCanonicalAnswer, IsClashesAnswer, IsClashlessRefusal, IsCompareAnswer, IsCompareFault, IsDayAnswer}
 use Rattle.cif_tool.proofs.Names.{IsDayFault, IsDiffAnswer, IsErrAnd, IsExplainAnswer, IsExplanation, IsListedStatus, IsNormaliseFault}
-use Rattle.cif_tool.proofs.Names.{IsOfNormalise, IsReadNarrowedFault, IsResultOfBoth, IsTrainAnswer, IsTrainFault, IsTrue, IsWeekCalendar}
+use Rattle.cif_tool.proofs.Names.{IsOfNormalise, IsReadNarrowedFault, IsResultOfBoth, IsTrainAnswer, IsTrainFault, IsTrue}
 use Rattle.cif_tool.proofs.Names.{IsWeekCalendarFault, List, MAX_LINES, Ok, Option, Result, Source, SpellsNarrowed, TrainJob, Unread, []}
-use Rattle.cif_tool.proofs.Names.{ap, canon-fault, canonical_text, clashes_text, comparison_line, differences_in, extract_parts, false, inl}
+use Rattle.cif_tool.proofs.Names.{ap, canon-fault, canonical_text, comparison_line, differences_in, extract_parts, false, inl}
 use Rattle.cif_tool.proofs.Names.{inr, is-normalised, known_so, lines_of, listed_status, outcome_of, reader_of, reading_extract, refl, sym}
 use Rattle.cif_tool.proofs.Names.{table_text, true, true≢false, ℕ, ⊎_elim, ◌↔◌, ◌≡◌, ◌⊎◌}
+use Rattle.cif_tool.specs.{Answer.IsCalendarIn, Answer.clashes_in, declared.job.ClashesJob.ClashesJob}
+use Rattle.cif_rows.specs.declared.format.Format.{Format}
 use Rattle.cif_views.specs.{Explanation.IsExplanationFault, Listing.IsDayListing, Listing.IsTrainListing}
 use Rattle.cif_extract.{proofs.ReadCalls.both-go-on, proofs.ReadCalls.both-hand-on, specs.declared.extract.Extract.Extract}
 use Rattle.cif_extract.specs.declared.fault.Fault.TheVariants as fault
@@ -41,7 +42,7 @@ module _ (start : Option (List ℕ)) where
           canonical_text o c ≡ canonical_text o (record { text = c.text; lines = lines; counts = c.counts })
       same output.Extract lines are = refl
       same output.Counts lines are = refl
-      same (output.Table table) lines are = ap (table_text rows.Tsv table) are
+      same (output.Table table format) lines are = ap (table_text format table) are
 
   module _ (x : ExtractParts) (spelled : IfSome start (λ bytes. BytesSpellWithin MAX_LINES bytes x)) where
     pub day-answer : (job : DayJob) (text : List ℕ) → IsDayListing job.listing x job.day text →
@@ -63,17 +64,17 @@ module _ (start : Option (List ℕ)) where
       (λ bytes s. record { extract = x; spelled = s; view = view; status_is = refl }) spelled
 
   pub calendar-answer : (job : CalendarJob) (x : ExtractParts) → IfSome start (SpellsNarrowed MAX_LINES job.asked x) → (text : List ℕ)
-      → IsWeekCalendar x job.uid text → IfSome start (λ bytes. IsCalendarAnswer job bytes text 0)
+      → IsCalendarIn job.format x job.uid text → IfSome start (λ bytes. IsCalendarAnswer job bytes text 0)
   calendar-answer job x spelled text view =
       known_so start (SpellsNarrowed MAX_LINES job.asked x) (λ bytes. IsCalendarAnswer job bytes text 0)
       (λ bytes s. record { extract = x; spelled = s; view = view; status_is = refl }) spelled
 
-  pub clashes-answer : (asked : Asked) (x : ExtractParts) → IfSome start (SpellsNarrowed MAX_LINES asked x) → (clashes : List Clash)
+  pub clashes-answer : (job : ClashesJob) (x : ExtractParts) → IfSome start (SpellsNarrowed MAX_LINES job.asked x) → (clashes : List Clash)
       (none : Bool) → AreAllClashes x clashes → IsTrue none ↔ (clashes ≡ [])
-      → IfSome start (λ bytes. IsClashesAnswer asked bytes (clashes_text clashes) (listed_status none))
-  clashes-answer asked x spelled clashes none all tells =
-      known_so start (SpellsNarrowed MAX_LINES asked x)
-      (λ bytes. IsClashesAnswer asked bytes (clashes_text clashes) (listed_status none)) (λ bytes s. record {
+      → IfSome start (λ bytes. IsClashesAnswer job bytes (clashes_in job.format clashes) (listed_status none))
+  clashes-answer job x spelled clashes none all tells =
+      known_so start (SpellsNarrowed MAX_LINES job.asked x)
+      (λ bytes. IsClashesAnswer job bytes (clashes_in job.format clashes) (listed_status none)) (λ bytes s. record {
         extract = x;
         spelled = s;
         clashes = clashes;

@@ -12,15 +12,15 @@ use Rattle.cif_canon.specs.{Accepted.SpellsNarrowed, Canon.CanonParts, Compariso
 use Rattle.cif_canon.specs.{Comparison.comparison_line, Counts.counts_line, Fault.IsNormaliseFault, Fault.IsOfNormalise}
 use Rattle.cif_canon.specs.{Fault.IsReadNarrowedFault, Lines.lines_of, Normalised.FaultWrites, Normalised.IsNormalised, Pair.AreNarrowed}
 use Rattle.cif_canon.specs.{Pair.IsNarrowedPair, Pair.SpellPair, Views.IsDayFault, declared.asked.Asked.Asked}
-use Rattle.cif_canon.specs.{declared.canonical_form.Counts.Counts, declared.comparison.Comparison.Comparison, declared.rows.Format.Format}
-use Rattle.cif_canon.specs.{declared.rows.Format.TheVariants.Text, declared.rows.Format.TheVariants.Tsv}
-use Rattle.cif_rows.specs.declared.format.Format.TheVariants as rows
-use Rattle.cif_views.specs.{Clashes.AreAllClashes, Clashes.clashes_text, DifferenceTable.difference_table, Explanation.IsExplanation}
+use Rattle.cif_canon.specs.{declared.canonical_form.Counts.Counts, declared.comparison.Comparison.Comparison}
+use Rattle.cif_rows.specs.declared.format.{Format.Format, Format.TheVariants.Text}
+use Rattle.cif_views.specs.{Clashes.AreAllClashes, Clashes.clash_table, Clashes.clashes_text, DateCalendar.IsDateCalendar}
+use Rattle.cif_views.specs.{DifferenceTable.difference_table, Explanation.IsExplanation}
 use Rattle.cif_views.specs.{Explanation.IsExplanationFault, Listing.IsDayListing, Listing.IsTrainListing, TableText.table_text}
 use Rattle.cif_views.specs.{WeekCalendar.IsWeekCalendar}
 use Rattle.cif_canon.specs.Differences.{AreDifferences, AreNone, DifferencesParts, differences_text}
 use Rattle.cif_tool.{specs.Status.outcome_of, specs.declared.job.Job.TheVariants.Train}
-pub use Rattle.cif_tool.specs.declared.{job.CalendarJob.CalendarJob, job.CanonicalJob.CanonicalJob, job.CompareJob.CompareJob}
+pub use Rattle.cif_tool.specs.declared.{job.CalendarJob.CalendarJob, job.CanonicalJob.CanonicalJob, job.ClashesJob.ClashesJob, job.CompareJob.CompareJob}
 pub use Rattle.cif_tool.specs.declared.{job.DayJob.DayJob, job.ExplainJob.ExplainJob, job.TrainJob.TrainJob}
 use Rattle.cif_tool.specs.declared.{answers.CanonicalOutput.CanonicalOutput, answers.PairOutput.PairOutput, job.Job.Job}
 use Rattle.cif_tool.specs.declared.answers.CanonicalOutput.TheVariants as output
@@ -55,7 +55,7 @@ OfBoth remaining IsAnswer left right =
 abbrev pub canonical_text : CanonicalOutput → CanonParts → List ℕ
 canonical_text output.Extract canon = canon.text
 canonical_text output.Counts canon = counts_line canon.counts
-canonical_text (output.Table table) canon = table_text rows.Tsv table canon.lines
+canonical_text (output.Table table format) canon = table_text format table canon.lines
 
 -- `normalise`, `check` and `table` answer these bytes by their canonical text, by how many records it has, and by a table of the extract
 -- that it is.
@@ -111,7 +111,7 @@ IsListedStatus None status = ((status ≡ 0) × None) ⊎ ((status ≡ 1) × ¬ 
 -- the text of differences in this format
 abbrev pub differences_in : Format → DifferencesParts → List ℕ
 differences_in Text differences = differences_text differences
-differences_in Tsv differences = difference_table rows.Tsv differences
+differences_in format differences = difference_table format differences
 
 -- `diff` answers two inputs by their differences in the window that is asked for, in this format.
 pub record IsDiffAnswer (format : Format) (job : CompareJob) (left_bytes right_bytes text : List ℕ) (status : ℕ) : Type 0 where
@@ -135,13 +135,18 @@ pub record IsExplainAnswer (job : ExplainJob) (bytes text : List ℕ) (status : 
   pub explanation : IsExplanation job.format extract job.uid job.day text
   pub status_is : status ≡ 0
 
--- `clashes` answers an input by all its clashes in the window that is asked for.
-pub record IsClashesAnswer (asked : Asked) (bytes text : List ℕ) (status : ℕ) : Type 0 where
+-- the text of clashes in this format
+abbrev pub clashes_in : Format → List Clash → List ℕ
+clashes_in Text clashes = clashes_text clashes
+clashes_in format clashes = clash_table format clashes
+
+-- `clashes` answers an input by all its clashes in the window that is asked for, in this format.
+pub record IsClashesAnswer (job : ClashesJob) (bytes text : List ℕ) (status : ℕ) : Type 0 where
   pub extract : ExtractParts
-  pub spelled : SpellsNarrowed MAX_LINES asked extract bytes
+  pub spelled : SpellsNarrowed MAX_LINES job.asked extract bytes
   pub clashes : List Clash
   pub are_clashes : AreAllClashes extract clashes
-  pub text_is : text ≡ clashes_text clashes
+  pub text_is : text ≡ clashes_in job.format clashes
   pub status_is : IsListedStatus (clashes ≡ []) status
 
 -- Why `check --all` has no answer to these bytes, where `after` is what the reader has left then: a line is one too many, or the source
@@ -165,11 +170,16 @@ abbrev pub IsExplainRefusal : ℕ → List ℕ → Unread → Fault → Type 0
 IsExplainRefusal day bytes after fault = IsReadFault MAX_LINES bytes after fault
     ⊎ ((extract : ExtractParts) × BytesSpellWithin MAX_LINES bytes extract × IsExplanationFault extract day fault)
 
--- `calendar` answers these bytes by the calendar of the train in the window that is asked for.
+-- The text is the calendar of the train in this format: week by week, or a table of its dates.
+abbrev pub IsCalendarIn : Format → ExtractParts → List ℕ → List ℕ → Type 0
+IsCalendarIn Text = IsWeekCalendar
+IsCalendarIn format = IsDateCalendar format
+
+-- `calendar` answers these bytes by the calendar of the train in the window that is asked for, in this format.
 pub record IsCalendarAnswer (job : CalendarJob) (bytes text : List ℕ) (status : ℕ) : Type 0 where
   pub extract : ExtractParts
   pub spelled : SpellsNarrowed MAX_LINES job.asked extract bytes
-  pub view : IsWeekCalendar extract job.uid text
+  pub view : IsCalendarIn job.format extract job.uid text
   pub status_is : status ≡ 0
 
 -- Why `clashes` or `calendar`, which refuse no clash, have no answer: the bytes aren't read as an extract for the window that is asked
@@ -221,8 +231,8 @@ IsJobAnswer remaining (Diff job) source right = OfBoth remaining (IsDiffAnswer j
 IsJobAnswer remaining (Day job) source right = OfInput remaining (IsDayAnswer job) source
 IsJobAnswer remaining (Train job) source right = OfInput remaining (IsTrainAnswer job) source
 IsJobAnswer remaining (Explain job) source right = OfInput remaining (IsExplainAnswer job) source
-IsJobAnswer remaining (Clashes asked) source right = OfInput remaining (IsClashesAnswer asked) source
-IsJobAnswer remaining (Table job) source right = OfInput remaining (IsCanonicalAnswer (output.Table job.table) job.canonical) source
+IsJobAnswer remaining (Clashes job) source right = OfInput remaining (IsClashesAnswer job) source
+IsJobAnswer remaining (Table job) source right = OfInput remaining (IsCanonicalAnswer (output.Table job.table job.format) job.canonical) source
 IsJobAnswer remaining (Calendar job) source right = OfInput remaining (IsCalendarAnswer job) source
 
 -- why a command with one input has none
@@ -234,7 +244,7 @@ IsJobFault (Train job) = IsNormaliseFault MAX_LINES job.asked
 IsJobFault (Table job) = IsNormaliseFault MAX_LINES job.canonical.asked
 IsJobFault (Day job) = IsDayRefusal job.day
 IsJobFault (Explain job) = IsExplainRefusal job.day
-IsJobFault (Clashes asked) = IsClashlessRefusal asked
+IsJobFault (Clashes job) = IsClashlessRefusal job.asked
 IsJobFault (Calendar job) = IsClashlessRefusal job.asked
 IsJobFault _ = λ bytes after fault. ⊥
 

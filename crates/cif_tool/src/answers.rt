@@ -1,5 +1,5 @@
 //! What each command answers, for any devices, and which of them a job asks for.
-ghost use Rattle.std.specs.Prelude.{◌≡◌, IfErr};
+ghost use Rattle.std.specs.Prelude.{◌≡◌, ℕ, List, IfErr};
 ghost use Rattle.cif_canon.specs.Fault.{IsNormaliseFault};
 ghost use Rattle.cif_columns.specs.{Sink.Writes, declared.line_reader.TheConstants.MAX_LINES};
 ghost use Rattle.cif_extract.specs.declared.fault.Fault.TheVariants.{Write};
@@ -7,21 +7,27 @@ ghost use Rattle.cif_feed.specs.FeedAnswer.{IsHandedOn};
 ghost use Rattle.cif_tool.specs.Answer.{Answers, AreAnswered, AreComparedAs, Finishes, IsAnswered, IsCalendarAnswer, IsCheckAllAnswer};
 ghost use Rattle.cif_tool.specs.Answer.{IsClashesAnswer, IsClashlessRefusal, IsCanonicalAnswer, IsDayAnswer, IsDayRefusal, IsPairAnswer};
 ghost use Rattle.cif_tool.specs.Answer.{IsExplainAnswer, IsExplainRefusal, IsJobAnswer, IsJobResult, IsTrainAnswer, answering};
-ghost use Rattle.cif_tool.specs.Answer.{answering_all, canonical_text, differences_in};
+ghost use Rattle.cif_tool.specs.Answer.{IsCalendarIn, answering_all, canonical_text, clashes_in, differences_in};
+ghost use Rattle.cif_canon.specs.Normalised.{FaultWrites, IfWritten};
+ghost use Rattle.cif_extract.specs.ExtractParts.{extract_parts};
+ghost use Rattle.cif_views.specs.WeekCalendar.{IsWeekCalendarFault};
 ghost use Rattle.cif_tool.specs.Status.{ReportsFault, end_status};
 
-use crate::job::{CalendarJob, CanonicalJob, CompareJob, DayJob, ExplainJob, Job, TrainJob};
+use crate::job::{
+    CalendarJob, CanonicalJob, ClashesJob, CompareJob, DayJob, ExplainJob, Job, TrainJob,
+};
 use crate::status::{DONE, Ended, REFUSED, end, listed, outcome};
 use cif_canon::{
-    Asked, Canon, Differences, Format, compare, differences, narrowed_canon, read_canon,
-    read_narrowed, read_pair, write_comparison, write_counts,
+    Canon, Differences, compare, differences, narrowed_canon, read_canon, read_narrowed, read_pair,
+    write_comparison, write_counts,
 };
 use cif_columns::{MAX_LINES, ReadDevice, Sink, Source, WriteDevice};
 use cif_extract::{Extract, Fault, read_extract};
 use cif_feed::{Judged, Reasons};
+use cif_rows::Format;
 use cif_views::{
-    Table, clashes, day_listing, explain_listing, train_listing, week_calendar,
-    write_difference_table, write_table,
+    Clashes, Table, clashes, date_calendar, day_listing, explain_listing, train_listing,
+    week_calendar, write_difference_table, write_table,
 };
 use std::alloc::Global;
 
@@ -43,8 +49,8 @@ pub enum CanonicalOutput {
     Extract,
     /// How many records it has.
     Counts,
-    /// This table of it.
-    Table(Table),
+    /// This table of it, in this format.
+    Table(Table, Format),
 }
 
 /// Writes this of the canonical extract of what the source gives, and answers status 0.
@@ -78,7 +84,7 @@ fn write_canonical<W: WriteDevice>(
     match output {
         CanonicalOutput::Extract => canon.write(sink),
         CanonicalOutput::Counts => write_counts(&canon.counts(), sink).map_err(Fault::from),
-        CanonicalOutput::Table(table) => write_table(canon, table, cif_rows::Format::Tsv, sink),
+        CanonicalOutput::Table(table, format) => write_table(canon, table, format, sink),
     }
 }
 
@@ -172,7 +178,7 @@ fn write_differences<W: WriteDevice>(
 {
     match format {
         Format::Text => found.write(sink),
-        Format::Tsv => write_difference_table(found, cif_rows::Format::Tsv, sink),
+        Format::Tsv | Format::Json => write_difference_table(found, format, sink),
     }
 }
 
@@ -235,15 +241,31 @@ pub fn answer_clashes<R: ReadDevice, W: WriteDevice>(
     alloc: Global,
     source: &mut Source<R>,
     sink: &mut Sink<W>,
-    asked: &Asked,
+    job: &ClashesJob,
 ) -> Result<u8, Fault>
     ensures { IsAnswered R.remaining R.read_errors W.contents W.write_errors W.holds_nothing
-        (IsClashesAnswer asked.now) (answering (IsClashlessRefusal asked.now))
+        (IsClashesAnswer job.now) (answering (IsClashlessRefusal job.now.asked))
         source.old source.new sink.old sink.new result }
 {
-    let extract = read_narrowed(alloc, source, MAX_LINES, asked)?;
+    let extract = read_narrowed(alloc, source, MAX_LINES, &job.asked)?;
     let found = clashes(alloc, &extract)?;
-    finish(found.write(sink), sink, listed(found.is_empty()))
+    let written = write_clashes(&found, job.format, sink);
+    finish(written, sink, listed(found.is_empty()))
+}
+
+/// Appends the clashes in this format.
+fn write_clashes<W: WriteDevice>(
+    found: &Clashes,
+    format: Format,
+    sink: &mut Sink<W>,
+) -> Result<(), Fault>
+    ensures writes { Writes W.contents W.write_errors (clashes_in format found.now) sink.old sink.new result }
+    ensures fault { IfErr result (λ fault. fault ≡ Write) }
+{
+    match format {
+        Format::Text => found.write(sink),
+        Format::Tsv | Format::Json => found.write_table(format, sink),
+    }
 }
 
 /// Writes the calendar of the train, and answers status 0.
@@ -260,7 +282,26 @@ pub fn answer_calendar<R: ReadDevice, W: WriteDevice>(
 {
     let extract = read_narrowed(alloc, source, MAX_LINES, &job.asked)?;
     let extract = kept.insert(extract);
-    finish(week_calendar(alloc, extract, &job.uid, sink), sink, DONE)
+    let written = write_calendar(alloc, extract, job, sink);
+    finish(written, sink, DONE)
+}
+
+/// Appends the calendar of the train in this format.
+fn write_calendar<W: WriteDevice>(
+    alloc: Global,
+    extract: &Extract,
+    job: &CalendarJob,
+    sink: &mut Sink<W>,
+) -> Result<(), Fault>
+    ensures view { (text : List ℕ)
+        × FaultWrites W.contents W.write_errors text sink.old sink.new result
+        × IfWritten result (IsCalendarIn job.now.format (extract_parts extract.now) job.now.uid text) }
+    ensures fault { IfErr result IsWeekCalendarFault }
+{
+    match job.format {
+        Format::Text => week_calendar(alloc, extract, &job.uid, sink),
+        Format::Tsv | Format::Json => date_calendar(alloc, extract, &job.uid, job.format, sink),
+    }
 }
 
 /// Answers this status, if all was written, once it is handed on.
@@ -320,9 +361,9 @@ fn answer<R: ReadDevice, W: WriteDevice>(
         Job::Day(job) => answer_day(alloc, source, sink, job, &mut kept.left),
         Job::Train(job) => answer_train(alloc, source, sink, job, &mut kept.left),
         Job::Explain(job) => answer_explain(alloc, source, sink, job, &mut kept.left),
-        Job::Clashes(asked) => answer_clashes(alloc, source, sink, asked),
+        Job::Clashes(job) => answer_clashes(alloc, source, sink, job),
         Job::Table(job) => {
-            let output = CanonicalOutput::Table(job.table);
+            let output = CanonicalOutput::Table(job.table, job.format);
             answer_canonical(alloc, source, sink, &job.canonical, output, &mut kept.left)
         }
         Job::Calendar(job) => answer_calendar(alloc, source, sink, job, &mut kept.left),

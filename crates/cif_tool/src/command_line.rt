@@ -8,7 +8,7 @@ ghost use Rattle.cif_tool.specs.CommandLine.{AreChoices, IsCommand, argument, ch
 use crate::help;
 use Argument::{
     All, Common, Date, DropClashes, File, Form, Format, FromDate, Full, Holidays, Left, Lenient,
-    Right, Stops, Table, ToDate, Uid, Updates, Verbose,
+    ListingFormat, Right, Stops, Table, TableFormat, ToDate, Uid, Updates, Verbose,
 };
 use clap::{Arg, ArgAction, ArgMatches, Command};
 use std::alloc::{AllocError, Global};
@@ -32,8 +32,12 @@ enum Syntax {
     Date,
     /// By `--ID FORM`.
     Form,
-    /// By `--ID FORMAT`.
+    /// By `--ID FORMAT`, where text is the default.
     Format,
+    /// By `--ID FORMAT`, where a table in TSV is the default.
+    TableFormat,
+    /// By `--ID FORMAT`, of a listing.
+    ListingFormat,
     /// By a word that may not be left out, and names a table.
     Table,
 }
@@ -59,6 +63,8 @@ enum Argument {
     Lenient,
     Form,
     Format,
+    TableFormat,
+    ListingFormat,
     Table,
 }
 
@@ -86,6 +92,8 @@ impl Argument {
             Lenient => ("lenient", Syntax::Flag, help::LENIENT),
             Form => ("form", Syntax::Form, help::FORM),
             Format => ("format", Syntax::Format, help::FORMAT),
+            TableFormat => ("format", Syntax::TableFormat, help::FORMAT),
+            ListingFormat => ("format", Syntax::ListingFormat, help::FORMAT),
             Table => ("TABLE", Syntax::Table, help::TABLES),
         }
     }
@@ -94,11 +102,14 @@ impl Argument {
 /// What a subcommand is called, what help says of it, and what it takes.
 type Parts<'a> = (&'a str, &'a str, &'a [Argument]);
 
-/// The words that name a form, those that name a format, and those that name a table.
+/// The words that name a form, those that name a format, where there is text, in a table, and of a listing, and those
+/// that name a table.
 #[derive(Clone, Copy)]
 pub(crate) struct Choices<'a> {
     forms: &'a [&'a str],
     formats: &'a [&'a str],
+    table_formats: &'a [&'a str],
+    listing_formats: &'a [&'a str],
     tables: &'a [&'a str],
 }
 
@@ -108,7 +119,9 @@ pub(crate) fn all_choices() -> Choices<'static>
 {
     Choices {
         forms: &["1", "2", "3"],
-        formats: &["text", "tsv"],
+        formats: &["text", "tsv", "json"],
+        table_formats: &["tsv", "json"],
+        listing_formats: &["text", "tsv"],
         tables: &[
             "header",
             "tiplocs",
@@ -138,6 +151,10 @@ fn arg_of<'a>(alloc: Global, given: (&'a str, Syntax, &'a str), choices: &Choice
         Syntax::Date => option(arg, id, "YYMMDD"),
         Syntax::Form => one_of_or(option(arg, id, "FORM"), choices.forms, "2"),
         Syntax::Format => one_of_or(option(arg, id, "FORMAT"), choices.formats, "text"),
+        Syntax::TableFormat => one_of_or(option(arg, id, "FORMAT"), choices.table_formats, "tsv"),
+        Syntax::ListingFormat => {
+            one_of_or(option(arg, id, "FORMAT"), choices.listing_formats, "text")
+        }
         // Help would have them in a line of more than 80 columns.
         Syntax::Table => arg
             .required(true)
@@ -216,27 +233,44 @@ static SUBCOMMANDS: [Parts<'static>; 12] = [
         help::DIFF,
         &[Verbose, Left, Right, FromDate, ToDate, Common, Format],
     ),
-    ("day", help::DAY, &[Verbose, Date, File, Stops, Format]),
+    (
+        "day",
+        help::DAY,
+        &[Verbose, Date, File, Stops, ListingFormat],
+    ),
     (
         "train",
         help::TRAIN,
-        &[Verbose, Uid, File, FromDate, ToDate, Form, Stops, Format],
+        &[
+            Verbose,
+            Uid,
+            File,
+            FromDate,
+            ToDate,
+            Form,
+            Stops,
+            ListingFormat,
+        ],
     ),
     (
         "explain",
         help::EXPLAIN,
-        &[Verbose, Uid, Date, File, Format],
+        &[Verbose, Uid, Date, File, ListingFormat],
     ),
-    ("clashes", help::CLASHES, &[Verbose, File, FromDate, ToDate]),
+    (
+        "clashes",
+        help::CLASHES,
+        &[Verbose, File, FromDate, ToDate, Format],
+    ),
     (
         "table",
         help::TABLE,
-        &[Verbose, Table, File, FromDate, ToDate, Form],
+        &[Verbose, Table, File, FromDate, ToDate, Form, TableFormat],
     ),
     (
         "calendar",
         help::CALENDAR,
-        &[Verbose, Uid, File, FromDate, ToDate],
+        &[Verbose, Uid, File, FromDate, ToDate, Format],
     ),
     (
         "prepare",

@@ -87,7 +87,8 @@ associations, then schedules. If there is no difference, prints nothing.
 --format tsv prints a table instead: field names in the first line, tabs between
 fields. Two records of one train or association with the same dates and days
 have a row for each field that differs. If their journeys have other places, one
-row says how many calls each has. Any other record has one row.
+row says how many calls each has. Any other record has one row. --format json
+prints an object a line instead, with the names and the cells of that table.
 With --common, the common window goes from the later of the two first dates
 to the earlier of the two last dates. Extracts of different days need it.
 
@@ -167,7 +168,9 @@ Prints a line for each train or association with a clash in the window, with
 the first date on which two winning records differ:
   association [BASE][OTHER][LOCATION][SUFFIX][SUFFIX] on YYMMDD
   train [UID] on YYMMDD
-If there is none, prints nothing.
+If there is none, prints nothing. --format tsv prints a table instead: field
+names in the first line, tabs between fields. --format json prints an object a
+line.
 
 Example:
   cif clashes extract.cif
@@ -192,7 +195,7 @@ Prints field names in the first line, and then a row for each of these:
   public        a call that riders can use, with its times, counted on past
                 midnight, and whether they may get off and on
 Tabs separate fields, and dates are YYYY-MM-DD. The first six together say what
-the canonical extract says.
+the canonical extract says. --format json prints an object a line instead.
 Form 1 joins weeks that have the same days. Form 2 also joins a week that the
 window cuts, if its remaining days match the other week's. Form 3 has the fewest
 records: each goes on as long as can be, in whatever weeks.
@@ -219,6 +222,9 @@ dates of the window it doesn't:
   C  it is cancelled
   .  no record applies
   !  winning records differ
+--format tsv prints a table with a row for each date instead, with this
+character and whether the train runs: 1, 0, or nothing at `!`. --format json
+prints an object a line.
 
 Example:
   cif calendar C00123 extract.cif

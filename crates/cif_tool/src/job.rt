@@ -3,9 +3,10 @@ ghost use Rattle.std.specs.Prelude.{◌≡◌};
 ghost use Rattle.cif_tool.specs.JobFault.{IsExplained};
 
 use crate::status::{DONE, FAILED, USAGE_ERROR, end};
-use cif_canon::{Asked, Format};
+use cif_canon::Asked;
 use cif_columns::{Day, Sink, Uid, WriteDevice};
 use cif_extract::Fault;
+use cif_rows::Format;
 use cif_views::{Listing, Table};
 use cif_weeks::Form;
 use clap::error::ErrorKind;
@@ -66,10 +67,10 @@ pub enum Job {
     /// To say why a train runs on a day, or doesn't.
     Explain(ExplainJob),
     /// To list the clashes in the window that is asked for.
-    Clashes(Asked),
+    Clashes(ClashesJob),
     /// To write a table of the canonical extract.
     Table(TableJob),
-    /// To show, week by week, which records of a train win on each date.
+    /// To show which records of a train win on each date.
     Calendar(CalendarJob),
 }
 
@@ -116,6 +117,13 @@ pub struct TrainJob {
 pub struct ExplainJob {
     pub uid: Uid,
     pub day: Day,
+    pub format: cif_canon::Format,
+}
+
+/// What `clashes` is asked for.
+#[derive(Clone, Copy)]
+pub struct ClashesJob {
+    pub asked: Asked,
     pub format: Format,
 }
 
@@ -124,6 +132,7 @@ pub struct ExplainJob {
 pub struct TableJob {
     pub table: Table,
     pub canonical: CanonicalJob,
+    pub format: Format,
 }
 
 /// What `calendar` is asked for.
@@ -131,6 +140,7 @@ pub struct TableJob {
 pub struct CalendarJob {
     pub uid: Uid,
     pub asked: Asked,
+    pub format: Format,
 }
 
 /// What a command that reads published extracts is asked for.

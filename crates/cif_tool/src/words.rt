@@ -5,19 +5,20 @@ ghost use Rattle.clap.specs.Words.{all_of, first_of, found_of, kind_of, rows_of,
 ghost use Rattle.cif_columns.specs.Day.{StandsInYymmdd};
 ghost use Rattle.cif_tool.specs.CommandLine.{feed_subcommands};
 ghost use Rattle.cif_tool.specs.Job.{Asks, IsAskedBy, IsChosen, IsDateOf, IsRequestChosen};
-ghost use Rattle.cif_tool.specs.Job.{IsTaskChosen, IsUidWord, file_of, form_of, format_of, has_flag, inputs_of, is_standard, listing_of};
-ghost use Rattle.cif_tool.specs.Job.{names_of, required_word, standard_inputs, table_of};
+ghost use Rattle.cif_tool.specs.Job.{IsTaskChosen, IsUidWord, file_of, form_of, format_of, has_flag, inputs_of, is_standard, listing_format_of, listing_of};
+ghost use Rattle.cif_tool.specs.Job.{names_of, required_word, standard_inputs, table_format_of, table_of};
 ghost use Rattle.cif_tool.specs.JobFault.{HasBadDate, HasBadWindow, IsAskedFor, IsEnteredFault};
 ghost use Rattle.cif_tool.specs.JobFault.{IsFaultOf, IsNoUid, IsNoneOf, NamesNoDay, several_of};
 
 use crate::command_line::{all_choices, matches_of};
 use crate::job::{
-    CalendarJob, CanonicalJob, CompareJob, DayJob, DiffJob, ExplainJob, FeedJob, InputNames,
-    Inputs, Job, JobFault, PrepareJob, Request, TableJob, Task, TrainJob, UpdateJob,
+    CalendarJob, CanonicalJob, ClashesJob, CompareJob, DayJob, DiffJob, ExplainJob, FeedJob,
+    InputNames, Inputs, Job, JobFault, PrepareJob, Request, TableJob, Task, TrainJob, UpdateJob,
 };
 use crate::message::{Escaped, Verbosity};
-use cif_canon::{Asked, Format};
+use cif_canon::Asked;
 use cif_columns::{Day, Uid, are_printable};
+use cif_rows::Format;
 use cif_views::{Listing, Table};
 use cif_weeks::Form;
 use clap::ArgMatches;
@@ -162,11 +163,12 @@ fn named_job(name: &str, matches: &ArgMatches<'_>) -> Result<Job, JobFault>
         "explain" => Ok(Job::Explain(ExplainJob {
             uid: uid_of(matches)?,
             day: day_of(matches)?,
-            format: format_of(matches),
+            format: listing_format_of(matches),
         })),
         "calendar" => Ok(Job::Calendar(CalendarJob {
             uid: uid_of(matches)?,
             asked: asked_of(matches)?,
+            format: format_of(matches),
         })),
         _ => {
             let asked = asked_of(matches)?;
@@ -180,10 +182,14 @@ fn named_job(name: &str, matches: &ArgMatches<'_>) -> Result<Job, JobFault>
                     compared: compare_job(asked, matches),
                     format: format_of(matches),
                 })),
-                "clashes" => Ok(Job::Clashes(asked)),
+                "clashes" => Ok(Job::Clashes(ClashesJob {
+                    asked,
+                    format: format_of(matches),
+                })),
                 "table" => Ok(Job::Table(TableJob {
                     table: table_of(required_word(matches, "TABLE")),
                     canonical,
+                    format: table_format_of(matches),
                 })),
                 _ => Err(JobFault::NoCommand),
             }
@@ -379,13 +385,34 @@ fn form_of(matches: &ArgMatches<'_>) -> Form
     }
 }
 
-/// The format that the words name.
+/// The format that the words name, which is text if they name none.
 fn format_of(matches: &ArgMatches<'_>) -> Format
     ensures { result ≡ format_of (first_of (codes "format") (rows_of (found_of matches.now))) }
 {
     match word_of(matches, "format") {
         Some("tsv") => Format::Tsv,
+        Some("json") => Format::Json,
         _ => Format::Text,
+    }
+}
+
+/// The format of a table that the words name, which is TSV if they name none.
+fn table_format_of(matches: &ArgMatches<'_>) -> Format
+    ensures { result ≡ table_format_of (first_of (codes "format") (rows_of (found_of matches.now))) }
+{
+    match word_of(matches, "format") {
+        Some("json") => Format::Json,
+        _ => Format::Tsv,
+    }
+}
+
+/// The format of a listing that the words name.
+fn listing_format_of(matches: &ArgMatches<'_>) -> cif_canon::Format
+    ensures { result ≡ listing_format_of (first_of (codes "format") (rows_of (found_of matches.now))) }
+{
+    match word_of(matches, "format") {
+        Some("tsv") => cif_canon::Format::Tsv,
+        _ => cif_canon::Format::Text,
     }
 }
 
@@ -401,7 +428,7 @@ fn listing_of(matches: &ArgMatches<'_>) -> Listing
     ensures { result ≡ listing_of (rows_of (found_of matches.now)) }
 {
     Listing {
-        format: format_of(matches),
+        format: listing_format_of(matches),
         calls: has_flag(matches, "stops"),
     }
 }

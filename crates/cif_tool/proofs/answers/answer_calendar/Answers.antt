@@ -18,7 +18,7 @@ returns g c =
     let job = c.args.job.now in
     let narrowed = c.in_ok-extract.extract in
     let x = extract_parts narrowed in
-    let call = c.week_calendar in
+    let call = c.write_calendar-written in
     let view = rw c.insert-extract.ensures.value at call.ensures.view in
     view-shown (reading_narrowed MAX_LINES job.asked) (IsClashlessRefusal job.asked) _ _ _ _ narrowed tt c.in_ok-extract.ensures
     c.finish.result _ _ _ _ c.args.sink.now call.new.sink c.finish.new.sink view.0 call.result c.finish.ensures.handed_on _

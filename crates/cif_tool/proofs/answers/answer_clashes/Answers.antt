@@ -1,12 +1,13 @@
 -- What is written is an answer (`clashes-answer`); each call's faults are of known bytes.
-use Rattle.cif_tool.proofs.Names.{IsClashlessRefusal, MAX_LINES, Write, clashes_text, extract_parts, hands, listed_status, reading_narrowed}
+use Rattle.cif_tool.proofs.Names.{IsClashlessRefusal, MAX_LINES, Write, extract_parts, hands, listed_status, reading_narrowed}
 use Rattle.cif_tool.proofs.{KnownAnswers.clashes-answer, KnownAnswers.clashless-fault, Names.refl, Names.subst, Names.sym, Names.◌≢◌}
 use Rattle.cif_tool.proofs.Answered.{ends, may-narrow, not-answered, nothing-of-input, text-shown}
+use Rattle.cif_tool.specs.Answer.{clashes_in}
 use Rattle.cif_tool.proofs.answers.answer_clashes.Goals as goal
 
 pub returns-in_err-extract : goal.returns-in_err-extract
 returns-in_err-extract g c =
-    let asked = c.args.asked.now in
+    let asked = c.args.job.now.asked in
     let f = c.in_err-extract.field-0.0 in
     not-answered (reading_narrowed MAX_LINES asked) (IsClashlessRefusal asked) _ _ _ _ _ _ _ _ c.args.sink.now f
     (λ bytes after. clashless-fault asked bytes after f) (may-narrow f) refl (λ h. h) c.in_err-extract.ensures c.from_residual.result
@@ -14,7 +15,7 @@ returns-in_err-extract g c =
 
 pub returns-in_err-found : goal.returns-in_err-found
 returns-in_err-found g c =
-    let asked = c.args.asked.now in
+    let asked = c.args.job.now.asked in
     let call = c.from_residual-in_err-found in
     let f = c.in_err-found.field-0.0 in
     nothing-of-input _ _ _ c.args.sink.now call.result f call.ensures.1
@@ -25,12 +26,14 @@ returns-in_err-found g c =
 
 pub returns : goal.returns
 returns g c =
-    let asked = c.args.asked.now in
+    let asked = c.args.job.now.asked in
     let x = c.in_ok-extract.extract in
     let made = c.in_ok-found.found in
     let none = c.is_empty.result in
+    let job = c.args.job.now in
+    let call = c.write_clashes-written in
     text-shown (reading_narrowed MAX_LINES asked) (IsClashlessRefusal asked) _ _ _ _ x tt c.in_ok-extract.ensures c.finish.result
-    _ _ _ _ c.args.sink.now c.write.new.sink c.finish.new.sink (clashes_text made) c.write.result c.finish.ensures.handed_on
-    (listed_status none) c.listed.result c.listed.ensures c.write.ensures.writes c.write.ensures.fault
-    (clashes-answer _ asked (extract_parts x) c.in_ok-extract.ensures.ok made none c.in_ok-found.ensures.all c.is_empty.ensures)
+    _ _ _ _ c.args.sink.now call.new.sink c.finish.new.sink (clashes_in job.format made) call.result c.finish.ensures.handed_on
+    (listed_status none) c.listed.result c.listed.ensures call.ensures.writes call.ensures.fault
+    (clashes-answer _ job (extract_parts x) c.in_ok-extract.ensures.ok made none c.in_ok-found.ensures.all c.is_empty.ensures)
     (λ bytes after spelled. (extract_parts x, spelled)) c.finish.ensures.finishes
