@@ -1,7 +1,9 @@
 pub mod AddedTexts
 pub mod AppendedTexts
 pub mod Buffers
+pub mod GivenFields
 pub mod LongDates
 pub mod Names
+pub mod NestedRows
 pub mod Quoted
 pub mod RowTexts

@@ -128,6 +128,16 @@ row_text Text row = without_last (flat_map (λ f. padded f.padding f.columns) ro
 row_text Tsv row = join_with_byte 9 (map (λ f. cell f.shape f.columns) row) ++ codes "\n"
 row_text Json row = codes "{" ++ (join_with_byte 44 (map member row) ++ codes "}\n")
 
+-- a row of JSON whose last field are its calls: a list of objects
+abbrev pub object_text : List Field → List ℕ
+object_text fields = codes "{" ++ (join_with_byte 44 (map member fields) ++ codes "}")
+
+abbrev pub calls_member : List (List Field) → List ℕ
+calls_member calls = codes "\"calls\":[" ++ (join_with_byte 44 (map object_text calls) ++ codes "]")
+
+abbrev pub row_with_calls : List Field → List (List Field) → List ℕ
+row_with_calls row calls = codes "{" ++ (join_with_byte 44 (map member row ++ (calls_member calls ∷ [])) ++ codes "}\n")
+
 -- names before the rows, which only a table has
 abbrev pub heading_text : Format → List (List ℕ) → List ℕ
 heading_text Text names = []

@@ -1,9 +1,9 @@
 -- How the text of a row is made, field by field. No clause of a listing cites it.
-use Rattle.std.specs.Prelude.{Bool, List, [], codes, length, map, nat_le, true, ℕ, ⊤, ◌&&◌, ◌++◌, ◌∷◌, ◌≡◌}
+use Rattle.std.specs.Prelude.{Bool, List, [], codes, length, map, nat_le, true, ℕ, ⊤, ◌&&◌, ◌*◌, ◌+◌, ◌++◌, ◌∷◌, ◌≡◌}
 use Rattle.std.specs.Borrow.{Bor}
 use Rattle.std.specs.List.{flat_map}
 use Rattle.cif_rows.specs.Row.{Field, cell, escape, member, padded, without_last}
-use Rattle.cif_rows.specs.declared.{format.Format.Format, shape.Shape.Shape}
+use Rattle.cif_rows.specs.declared.{format.Format.Format, shape.Padding.Padding, shape.Shape.Shape}
 use Rattle.cif_rows.specs.declared.format.Format.TheVariants.{Json, Text, Tsv}
 use Rattle.cif_rows.specs.declared.shape.Shape.TheVariants.{Date}
 
@@ -50,6 +50,28 @@ IsOfShape _ columns = ⊤
 abbrev pub width_of : Shape → List ℕ → ℕ
 width_of Date columns = 10
 width_of _ columns = length columns
+
+-- fields, as the code has them; each can be shown as its shape says
+abbrev pub GivenField : Type 0
+GivenField = Bor (List ℕ) × Padding × Shape × Bor (List ℕ)
+
+abbrev pub field_of : GivenField → Field
+field_of given = record { name = given.0.now; padding = given.1; shape = given.2; columns = given.3.now }
+
+abbrev pub fields_of : List GivenField → List Field
+fields_of given = map field_of given
+
+abbrev pub AreOfShape : List Field → Type 0
+AreOfShape [] = ⊤
+AreOfShape (f ∷ fields) = IsOfShape f.shape f.columns × AreOfShape fields
+
+-- how many bytes a field takes at most, in any format
+abbrev pub room_of : Field → ℕ
+room_of f = length f.name + 2 * width_of f.shape f.columns + 8
+
+abbrev pub room_for : List Field → ℕ
+room_for [] = 0
+room_for (f ∷ fields) = room_of f + room_for fields
 
 -- a byte that stands in a text of JSON as it is
 abbrev pub IsPlain : ℕ → Type 0

@@ -11,5 +11,5 @@ mod shape;
 
 pub use format::{Format, Json, Padded, RowFormat, Tsv};
 pub use numeral::Numeral;
-pub use rows::Rows;
+pub use rows::{GivenField, Rows};
 pub use shape::{Padding, Shape, long_date};

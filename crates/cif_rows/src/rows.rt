@@ -4,7 +4,8 @@ ghost use Rattle.std.specs.List.{flat_map};
 ghost use Rattle.cif_rows.specs.{Adds.Adds, Appended.IsAppended};
 ghost use Rattle.cif_rows.specs.Row.{absent, cell, escape, is_escaped, member, number_field, padded, text_value, value_text, without_last};
 ghost use Rattle.cif_rows.specs.declared.shape.{Padding.TheVariants.Apart, Shape.TheVariants.Number};
-ghost use Rattle.cif_rows.specs.Steps.{IsOfShape, IsPlain, are_short, closing, field_text, fields_text, name_text, names_ended, names_text, opening, texts, width_of};
+ghost use Rattle.cif_rows.specs.Steps.{AreOfShape, IsOfShape, IsPlain, are_short, closing, field_text, fields_of, fields_text, name_text};
+ghost use Rattle.cif_rows.specs.Steps.{names_ended, names_text, opening, room_for, texts, width_of};
 
 use crate::format::{Format, RowFormat};
 use crate::numeral::Numeral;
@@ -17,6 +18,9 @@ const ROOM: usize = 1280;
 
 /// With more bytes than so many, fields of a line may have no room.
 const FULL: usize = 640;
+
+/// A field: its name, how a line of text lays it out, how a table shows its columns, and its columns.
+pub type GivenField<'a> = (&'a str, Padding, Shape, &'a [u8]);
 
 /// Rows in the format `F`. A clause sees the text that waits to be written.
 #[derive(Drop)]
@@ -422,6 +426,29 @@ impl<F: RowFormat> Rows<F> {
         }
     }
 
+    /// Adds fields to the row.
+    #[inline(always)]
+    pub fn push_fields<W: WriteDevice>(&mut self, sink: &mut Sink<W>, fields: &[GivenField<'_>])
+        requires fields { AreOfShape (fields_of fields.now) }
+        requires narrow { room_for (fields_of fields.now) ≤ FULL }
+        ensures { Adds W.contents W.write_errors (fields_text F.FORMAT (fields_of fields.now)) sink.old sink.new self.old self.new }
+    {
+        self.make_room(sink);
+        self.push_all(fields);
+    }
+
+    /// Adds fields, for which there is room.
+    #[inline(always)]
+    fn push_all(&mut self, fields: &[GivenField<'_>])
+        requires fields { AreOfShape (fields_of fields.now) }
+        requires room { length self.old + room_for (fields_of fields.now) ≤ ROOM }
+        ensures { self.new ≡ self.old ++ fields_text F.FORMAT (fields_of fields.now) }
+    {
+        for field in fields {
+            self.push_within(field.0, field.1, field.2, field.3);
+        }
+    }
+
     /// Adds empty fields that the record doesn't have.
     pub fn push_absent<W: WriteDevice>(&mut self, sink: &mut Sink<W>, names: &[&str])
         requires short { IsTrue (are_short (texts names.now)) }
@@ -441,6 +468,54 @@ impl<F: RowFormat> Rows<F> {
         for name in names {
             self.push_name(sink, name);
         }
+    }
+
+    /// Adds these bytes of JSON.
+    fn push_json<W: WriteDevice>(&mut self, sink: &mut Sink<W>, bytes: &[u8])
+        requires few { length bytes.now ≤ 100 }
+        ensures { Adds W.contents W.write_errors bytes.now sink.old sink.new self.old self.new }
+    {
+        self.make_room(sink);
+        self.append_all(bytes);
+    }
+
+    /// Begins the calls of a row of JSON, which are its last field.
+    pub fn begin_calls<W: WriteDevice>(&mut self, sink: &mut Sink<W>)
+        ensures { Adds W.contents W.write_errors (codes "\"calls\":[") sink.old sink.new self.old self.new }
+    {
+        self.push_json(sink, b"\"calls\":[");
+    }
+
+    /// Begins one of them.
+    pub fn begin_call<W: WriteDevice>(&mut self, sink: &mut Sink<W>)
+        ensures { Adds W.contents W.write_errors (codes "{") sink.old sink.new self.old self.new }
+    {
+        self.push_json(sink, b"{");
+    }
+
+    /// Ends it: what stands after its last field makes place.
+    pub fn end_call<W: WriteDevice>(&mut self, sink: &mut Sink<W>)
+        ensures { Adds W.contents W.write_errors (codes ",") sink.old sink.new
+            (without_last self.old ++ codes "}") self.new }
+    {
+        self.replace_last(b'}');
+        self.push_json(sink, b",");
+    }
+
+    /// Ends the calls: what stands after the last one makes place.
+    pub fn end_calls<W: WriteDevice>(&mut self, sink: &mut Sink<W>)
+        ensures { Adds W.contents W.write_errors (codes ",") sink.old sink.new
+            (without_last self.old ++ codes "]") self.new }
+    {
+        self.replace_last(b']');
+        self.push_json(sink, b",");
+    }
+
+    /// Adds to a row of JSON that it has no calls.
+    pub fn push_no_calls<W: WriteDevice>(&mut self, sink: &mut Sink<W>)
+        ensures { Adds W.contents W.write_errors (codes "\"calls\":[],") sink.old sink.new self.old self.new }
+    {
+        self.push_json(sink, b"\"calls\":[],");
     }
 }
 
