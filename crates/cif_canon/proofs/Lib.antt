@@ -31,8 +31,8 @@ pub mod SameExtracts
 pub mod SidedTexts
 pub mod SiftedTiplocs
 pub mod Unique
-pub mod ViewLines
 pub mod ViewTexts
 pub mod WrittenCanon
 pub mod WrittenDifferences
 pub mod Names
+pub mod SomeFields

@@ -3,7 +3,7 @@ use Rattle.cif_canon.proofs.Names.{AllPairs, AreAppendedRuns, AreMerging, AreRis
 use Rattle.cif_canon.proofs.Names.{Contains-get_or, Contains-none, Contains-push_cases, Contains-rest, Decides, HasMovedOf, IsFirstSide}
 use Rattle.cif_canon.proofs.Names.{Left, List, None, Right, Run, RunComesBefore, Side, Sided, Some, [], all_pairs_push, ap, append-nil}
 use Rattle.cif_canon.proofs.Names.{append_assoc, arith, at_side, cond_both, eq-or-lt_of_le, false, get_or, if◌then◌else◌, inl, inr, is_side}
-use Rattle.cif_canon.proofs.Names.{of_side, refl, subst, suc, sym, true, true≢false, zero, ⊎_elim, ◌++◌, ◌+◌, ◌<◌, ◌∙◌, ◌∷◌, ◌≡◌, ◌≤◌}
+use Rattle.cif_canon.proofs.Names.{of_side, refl, subst, suc, sym, true, true≢false, zero, ⊎_elim, ◌++◌, ◌<◌, ◌∙◌, ◌∷◌, ◌≡◌, ◌≤◌}
 
 -- ---- lists with sides
 

@@ -61,26 +61,24 @@ pub use Rattle.cif_weeks.proofs.PermanentEntries.{canonical-clear, canonical-dat
 pub use Rattle.cif_weeks.specs.declared.{form.Form.Form, form.Form.TheVariants.One, form.Form.TheVariants.Two, form.Run.Run}
 pub use Rattle.cif_canon.specs.Accepted.{IsAccepted, IsAcceptedWithin, IsClearExtract, SpellsNarrowed}
 pub use Rattle.cif_canon.specs.{Appended.IsAppended, Canon.CanonParts, Canon.IsCanonOf, Differences.marked_tiploc, Differences.of_side}
-pub use Rattle.cif_canon.specs.{Fault.IsReadNarrowedFault, Fault.reading_narrowed, Fields.with_first, Lines.schedule_plain, Meaning.Agree}
+pub use Rattle.cif_canon.specs.{Fault.IsReadNarrowedFault, Fault.reading_narrowed, Lines.schedule_plain, Meaning.Agree}
 pub use Rattle.cif_canon.specs.{Meaning.SameMeaning, Normalised.normalising, Normalised.reading_canon, Steps.Records.extract_fault}
 pub use Rattle.cif_canon.specs.{Steps.Tiplocs.AreDistinct, declared.asked.Asked.Asked, declared.canonical_form.Counts.Counts}
 pub use Rattle.cif_canon.specs.{declared.differing.Extent.TheVariants.AllKeys, declared.differing.Extent.TheVariants.FirstKey}
 pub use Rattle.cif_canon.specs.{declared.listed_differences.Side.Side, declared.listed_differences.Side.TheVariants.Left}
 pub use Rattle.cif_canon.specs.{declared.listed_differences.Side.TheVariants.Right, declared.listed_differences.Sided.Sided}
-pub use Rattle.cif_canon.specs.{declared.rows.Shape.TheVariants.Trimmed}
 pub use Rattle.cif_canon.specs.Asked.{AskedDatesAreWithin, IsNarrowed, IsNarrowingFault, header_window, nothing_asked, window_asked}
 pub use Rattle.cif_canon.specs.Canonical.{AreCanonicalEntries, IsCanonicalExtract, IsCanonicalOf}
 pub use Rattle.cif_canon.specs.Comparison.{IsCompareFault, IsComparison, IsFirstDifference, IsFirstTiploc}
-unfoldable pub use Rattle.cif_canon.specs.{Differences.differences_text, Fields.long_date, Steps.Texts.canon_lines, Steps.Texts.canon_text}
+unfoldable pub use Rattle.cif_canon.specs.{Differences.differences_text, Steps.Texts.canon_lines, Steps.Texts.canon_text}
 pub use Rattle.cif_canon.specs.Differences.{AreDifferences, AreDifferentRecords, AreDifferentTiplocs, AreNone, AreOnlyRecords, ComesBefore}
 pub use Rattle.cif_canon.specs.Differences.{DifferencesParts, IsOnlyIn, OnlySays, RunsApplied, SaysNothing, SaysSomething, TurnInto}
 pub use Rattle.cif_canon.specs.Differences.{TurnLeftIntoRight, at_side, is_side, mark, marked_association, marked_schedule, marked_text}
 pub use Rattle.cif_canon.specs.Fault.{IsCanonFault, IsDeviceOrMemory, IsFirstClashIn, IsNormaliseFault, IsOfCheck, IsOfReadNarrowed}
-pub use Rattle.cif_canon.specs.Fields.{AreFields, Field, after, century, fields_text, line_of, row_start, separator, shown, width, width_of}
 pub use Rattle.cif_canon.specs.Lines.{ScheduleLines, association_plain, line_of_association, line_of_tiploc, lines_of, lines_of_schedule}
 pub use Rattle.cif_canon.specs.Normalised.{FaultWrites, HasCanon, IfWritten, IsCanonOfInput, IsNormalised, Normalises, checking}
 pub use Rattle.cif_canon.specs.Pairs.{AreByPairs, ArePair, Listed, are_pair, by_pairs}
-pub use Rattle.cif_canon.specs.Rows.{association_fields, journey_fields, no_association, no_train, place_fields, train_fields}
+pub use Rattle.cif_canon.specs.Rows.{association_fields, journey_fields, no_association, no_train, train_fields}
 pub use Rattle.cif_canon.specs.Steps.Differences.{AreAlikeBy, AreClearIfSame, HasBodies, HoldsFrom}
 pub use Rattle.cif_canon.specs.Steps.OnlySides.{AreAppendedRuns, AreDifferentRuns, AreKeyDifferences, AreMerging, AreOnlyRuns}
 pub use Rattle.cif_canon.specs.Steps.OnlySides.{AreOnlyWinners, AreRisingRuns, AreSame, AreSifting, HasMovedOf, IsFirstFound, IsFirstOrder}

@@ -7,7 +7,6 @@ pub mod Comparison
 pub mod Counts
 pub mod Differences
 pub mod Fault
-pub mod Fields
 pub mod Lines
 pub mod Meaning
 pub mod NormalForm

@@ -9,8 +9,9 @@ use Rattle.cif_extract.specs.declared.{fault.Fault.Fault, fault.Fault.TheVariant
 use Rattle.cif_records.specs.{AssocKey.key_cmp, declared.association.AssocBody.AssocBody, declared.association.AssocKey.AssocKey}
 use Rattle.cif_weeks.specs.{Canonical.AreCanonical, Permanent.Permanent, Permanent.permanent_entries, Window.IsWithin}
 use Rattle.cif_weeks.specs.declared.form.Form.{Form}
-use Rattle.cif_canon.specs.{Accepted.IsClearExtract, Asked.header_window, Fault.IsCanonFault, Fields.line_of, Rows.association_row}
-use Rattle.cif_canon.specs.{Rows.schedule_row, Rows.train_row, declared.rows.Format.TheVariants.Text}
+use Rattle.cif_canon.specs.{Accepted.IsClearExtract, Asked.header_window, Fault.IsCanonFault, Rows.association_row}
+use Rattle.cif_canon.specs.{Rows.schedule_row, Rows.train_row}
+use Rattle.cif_rows.specs.{Row.row_text, declared.format.Format.TheVariants.Text}
 
 -- What runs on day d, each key once and rising. `cmp` is the order of the keys.
 pub record AreRunning {K B : Type 0} (cmp : K → K → Ordering) (entries : List (K × Terms B)) (d : ℕ) (running : List (K × B))
@@ -37,10 +38,10 @@ pub record IsDayListed (listed : DayTexts) (x : ExtractParts) (d : ℕ) (text : 
 
 -- the view of a day: a line for each association that holds, and then for each train that runs
 abbrev pub association_line : AssocKey × AssocBody → List ℕ
-association_line e = line_of Text (association_row Text e)
+association_line e = row_text Text (association_row e)
 
 abbrev pub train_line : List ℕ × BodyLines → List ℕ
-train_line e = line_of Text (train_row Text e)
+train_line e = row_text Text (train_row e)
 
 abbrev pub day_lines : DayTexts
 day_lines = record { heading = []; association = association_line; train = train_line }
@@ -67,7 +68,7 @@ pub record IsTrainListed (listed : TrainTexts) (form : Form) (x : ExtractParts) 
 
 -- the view of a train: a line for each of its canonical schedules
 abbrev pub schedule_line : Permanent BodyLines → List ℕ
-schedule_line r = line_of Text (schedule_row Text r)
+schedule_line r = row_text Text (schedule_row r)
 
 abbrev pub train_lines : TrainTexts
 train_lines = record { heading = []; schedule = schedule_line }

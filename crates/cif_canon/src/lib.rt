@@ -25,5 +25,4 @@ pub use comparison::{Comparison, compare, write_comparison};
 pub use differing::differences;
 pub use listed_differences::{Differences, ListedRecord, Side, Sided};
 pub use normal_form::{canon, check, narrowed_canon, normalise, read_canon, read_narrowed, report};
-pub use rows::{Format, Shape};
 pub use views::{DayLines, TrainLines, day_view, train_view, write_day, write_train};

@@ -1,6 +1,5 @@
 //! What runs on a day, and when a train runs.
-ghost use Rattle.std.specs.Prelude.{◌↔◌, ◌+◌, ◌++◌, ◌≤◌, ℕ, List, IfErr, IsTrue, codes};
-ghost use Rattle.arrayvec.specs.ArrayString.{array_string_len};
+ghost use Rattle.std.specs.Prelude.{◌↔◌, ℕ, List, IfErr, IsTrue};
 ghost use Rattle.cif_extract.specs.ExtractParts.{extract_parts};
 ghost use Rattle.cif_calendar.specs.Applies.{IsAmongDates};
 ghost use Rattle.cif_weeks.specs.Runs.{record_of};
@@ -10,13 +9,13 @@ ghost use Rattle.cif_canon.specs.Views.{IsDayFault, IsDayListed, IsDayView, IsTr
 use crate::asked::check_within;
 use crate::canonical_form::{CanonRecord, write_runs};
 use crate::extract_runs::extract_runs;
-use crate::rows::{Format, LONGEST_ROW, association_row, schedule_row, train_row};
-use crate::writing::{Texts, answer, append};
-use arrayvec::ArrayString;
+use crate::rows::{push_association_row, push_schedule_row, push_train_row};
+use crate::writing::{Texts, answer};
 use cif_calendar::Dates;
 use cif_columns::{Day, Sink, Uid, WriteDevice};
 use cif_extract::{Body, Extract, Fault};
 use cif_records::{AssocBody, AssocKey};
+use cif_rows::{Padded, Rows};
 use cif_weeks::{Form, Run};
 use std::alloc::Global;
 
@@ -99,11 +98,19 @@ impl DayLines for TextLines {
         body: &AssocBody,
         sink: &mut Sink<W>,
     ) {
-        write_line(association_row("", Format::Text, key, body), sink);
+        let mut rows = Rows::<Padded>::new();
+        rows.begin_row(sink);
+        push_association_row(&mut rows, key, body, sink);
+        rows.end_row(sink);
+        rows.finish(sink);
     }
 
     fn write_train<W: WriteDevice>(&self, uid: &Uid, body: &Body, sink: &mut Sink<W>) {
-        write_line(train_row("", Format::Text, uid, body), sink);
+        let mut rows = Rows::<Padded>::new();
+        rows.begin_row(sink);
+        push_train_row(&mut rows, uid, body, sink);
+        rows.end_row(sink);
+        rows.finish(sink);
     }
 }
 
@@ -118,18 +125,12 @@ impl TrainLines for TextLines {
     fn write_heading<W: WriteDevice>(&self, _sink: &mut Sink<W>) {}
 
     fn write_schedule<W: WriteDevice>(&self, run: &Run, body: &Body, sink: &mut Sink<W>) {
-        write_line(schedule_row("", Format::Text, run, body), sink);
+        let mut rows = Rows::<Padded>::new();
+        rows.begin_row(sink);
+        push_schedule_row(&mut rows, run, body, sink);
+        rows.end_row(sink);
+        rows.finish(sink);
     }
-}
-
-/// Appends the row and a line feed.
-fn write_line<W: WriteDevice>(row: ArrayString<LONGEST_ROW>, sink: &mut Sink<W>)
-    requires { array_string_len row + 1 ≤ LONGEST_ROW }
-    ensures { IsAppended W.contents W.write_errors (row.bytes ++ codes "\n") sink.old sink.new }
-{
-    let mut line = row;
-    line.push_str("\n");
-    append(line.as_str(), sink);
 }
 
 /// Appends what runs on the day: a line for each association that holds, rising by key, and then one

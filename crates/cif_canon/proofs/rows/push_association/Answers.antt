@@ -1,9 +1,8 @@
 -- What is written of each field is named.
-use Rattle.cif_canon.proofs.ViewLines.{one-more}
 use Rattle.cif_canon.proofs.rows.push_association.Goals as goal
 
-pub returns-clause-text : goal.returns-clause-text
-returns-clause-text c = rw (
+pub returns : goal.returns
+returns g c = rw (
   c.write.ensures.columns,
   c.write-2.ensures.columns,
   c.write-3.ensures.columns,
@@ -13,10 +12,4 @@ returns-clause-text c = rw (
   c.write-7.ensures.columns,
   c.write-8.ensures.columns,
   c.write-9.ensures.columns,
-) at c.push_fields.ensures.text
-
-pub push_fields-requires-clause-fields : goal.push_fields-requires-clause-fields
-push_fields-requires-clause-fields c =
-    one-more c.write.ensures.printable (one-more c.write-2.ensures.printable (one-more c.write-3.ensures.printable
-    (one-more c.write-4.ensures.printable (one-more c.write-5.ensures.printable (one-more c.write-6.ensures.printable
-    (one-more c.write-7.ensures.printable (one-more c.write-8.ensures.printable (one-more c.write-9.ensures.printable tt))))))))
+) at c.push_fields.ensures

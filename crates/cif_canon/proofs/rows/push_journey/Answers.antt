@@ -1,19 +1,18 @@
--- The places go behind the train identity (`field-after`).
-use Rattle.cif_canon.proofs.{Names.parts_in, Names.place_fields, ViewLines.field-after}
+-- What is written of each field is named.
 use Rattle.cif_canon.proofs.rows.push_journey.Goals as goal
 
-pub returns-clause-text : goal.returns-clause-text
-returns-clause-text c =
-    let b = parts_in c.args.body.now in
-    rw (
-      c.push_place-2.ensures.text,
-      c.push_place.ensures.text,
-      c.push_field.ensures.text,
-      c.write.ensures.columns,
-      c.detail.ensures,
-      c.origin-origin.ensures,
-      c.terminus-terminus.ensures,
-    )
-    (field-after c.args.format c.args.line.now.bytes _
-    (place_fields c.args.format b.origin.location b.origin.suffix b.origin.departure b.origin.platform)
-    (place_fields c.args.format b.terminus.location b.terminus.suffix b.terminus.arrival b.terminus.platform))
+pub returns : goal.returns
+returns g c = rw (
+  c.write.ensures.columns,
+  c.write-2.ensures.columns,
+  c.write-3.ensures.columns,
+  c.write-4.ensures.columns,
+  c.write-5.ensures.columns,
+  c.write-6.ensures.columns,
+  c.write-7.ensures.columns,
+  c.write-8.ensures.columns,
+  c.write-9.ensures.columns,
+  c.detail.ensures,
+  c.origin-origin.ensures,
+  c.terminus-terminus.ensures,
+) at c.push_fields.ensures
