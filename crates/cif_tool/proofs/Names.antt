@@ -19,7 +19,8 @@ pub use Rattle.cif_canon.proofs.Names.{lines_of, reading_canon, reading_extract,
 pub use Rattle.cif_canon.specs.{Comparison.AreCompared, Comparison.comparison_line, Counts.counts_line, Fault.IsOfCheck}
 pub use Rattle.cif_canon.specs.{Fault.IsOfNormalise, Views.IsDayFault, Views.IsTrainFault, declared.asked.Asked.Asked}
 pub use Rattle.cif_canon.proofs.Normalising.{canon-blamed, canon-fault, is-normalised, narrowed-fault, of-canon}
-pub use Rattle.cif_views.proofs.Names.{AreAllClashes, ExtractLines, Format, IsExplanation, IsWeekCalendar, at_drop_all, clashes_text}
+pub use Rattle.cif_views.proofs.Names.{AreAllClashes, ExtractLines, IsExplanation, IsWeekCalendar, at_drop_all, clashes_text}
+pub use Rattle.cif_rows.specs.declared.format.Format.{Format}
 pub use Rattle.cif_views.{proofs.Names.table_text, specs.WeekCalendar.IsWeekCalendarFault}
 pub use Rattle.cif_tool.specs.Answer.{Answers, AreAnswered, AreComparedAs, CalendarJob, CanonicalJob, CompareJob, DayJob, ExplainJob}
 pub use Rattle.cif_tool.specs.Answer.{Finishes, IfAnswered, IsAnswered, IsCalendarAnswer, IsCanonicalAnswer, IsCheckAllAnswer}

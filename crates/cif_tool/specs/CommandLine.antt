@@ -6,9 +6,8 @@ use Rattle.clap.{specs.Kinds.Kinds, specs.Lexer.usize_max, specs.declared.builde
 use Rattle.clap.specs.declared.{Command.Command, Command.TheViews.out-Command, builder.ArgAction.TheVariants.SetTrue}
 use Rattle.cif_tool.specs.declared.{command_line.Argument.Argument, command_line.Choices.Choices, command_line.Syntax.Syntax}
 use Rattle.cif_tool.specs.declared.command_line.Argument.TheVariants.{All, Common, Date, DropClashes, File, Form, Format, FromDate, Full}
-use Rattle.cif_tool.specs.declared.command_line.Argument.TheVariants.{ListingFormat, TableFormat}
-use Rattle.cif_tool.specs.declared.command_line.Argument.TheVariants.{Holidays, Left, Lenient, Right, Stops, Table, ToDate, Uid, Updates}
-use Rattle.cif_tool.specs.declared.command_line.Argument.TheVariants.{Verbose}
+use Rattle.cif_tool.specs.declared.command_line.Argument.TheVariants.{Holidays, Left, Lenient, Right, Stops, Table, TableFormat}
+use Rattle.cif_tool.specs.declared.command_line.Argument.TheVariants.{ToDate, Uid, Updates, Verbose}
 use Rattle.cif_tool.specs.declared.command_line.Syntax.TheVariants as syntax
 
 -- a word that may not be left out
@@ -34,12 +33,11 @@ Choice = Bor (List (Bor Text))
 abbrev pub words_in : Choice → List Text
 words_in choice = map (λ word. word.now) choice.now
 
--- the words that name a form; a format, where text is the default, of a table, and of a listing; and a table
+-- the words that name a form, a format, the format of a table, and a table
 pub record AreChoices (choices : Choices) : Type 0 where
   pub forms : words_in choices.forms ≡ codes "1" ∷ codes "2" ∷ codes "3" ∷ []
   pub formats : words_in choices.formats ≡ codes "text" ∷ codes "tsv" ∷ codes "json" ∷ []
   pub table_formats : words_in choices.table_formats ≡ codes "tsv" ∷ codes "json" ∷ []
-  pub listing_formats : words_in choices.listing_formats ≡ codes "text" ∷ codes "tsv" ∷ []
   pub tables : words_in choices.tables
       ≡ codes "header" ∷ codes "tiplocs" ∷ codes "associations" ∷ codes "schedules" ∷ codes "calls" ∷ codes "changes"
       ∷ codes "public" ∷ []
@@ -73,7 +71,6 @@ given Lenient = (codes "lenient", syntax.Flag)
 given Form = (codes "form", syntax.Form)
 given Format = (codes "format", syntax.Format)
 given TableFormat = (codes "format", syntax.TableFormat)
-given ListingFormat = (codes "format", syntax.ListingFormat)
 given Table = (codes "TABLE", syntax.Table)
 
 -- what a subcommand can take
@@ -88,7 +85,6 @@ argument choices (id, syntax.Date) = option id
 argument choices (id, syntax.Form) = one_of_or choices.forms (codes "2") (option id)
 argument choices (id, syntax.Format) = one_of_or choices.formats (codes "text") (option id)
 argument choices (id, syntax.TableFormat) = one_of_or choices.table_formats (codes "tsv") (option id)
-argument choices (id, syntax.ListingFormat) = one_of_or choices.listing_formats (codes "text") (option id)
 argument choices (id, syntax.Table) = one_of choices.tables (required id)
 
 -- a subcommand that takes these arguments too
@@ -114,15 +110,15 @@ diff = Verbose ∷ Left ∷ Right ∷ FromDate ∷ ToDate ∷ Common ∷ Format 
 
 -- `cif day [-v] [--stops] [--format FORMAT] YYMMDD [FILE]`
 abbrev pub day : List Argument
-day = Verbose ∷ Date ∷ File ∷ Stops ∷ ListingFormat ∷ []
+day = Verbose ∷ Date ∷ File ∷ Stops ∷ Format ∷ []
 
 -- `cif train [-v] [--from YYMMDD] [--to YYMMDD] [--form FORM] [--stops] [--format FORMAT] UID [FILE]`
 abbrev pub train : List Argument
-train = Verbose ∷ Uid ∷ File ∷ FromDate ∷ ToDate ∷ Form ∷ Stops ∷ ListingFormat ∷ []
+train = Verbose ∷ Uid ∷ File ∷ FromDate ∷ ToDate ∷ Form ∷ Stops ∷ Format ∷ []
 
 -- `cif explain [-v] [--format FORMAT] UID YYMMDD [FILE]`
 abbrev pub explain : List Argument
-explain = Verbose ∷ Uid ∷ Date ∷ File ∷ ListingFormat ∷ []
+explain = Verbose ∷ Uid ∷ Date ∷ File ∷ Format ∷ []
 
 -- `cif clashes [-v] [--from YYMMDD] [--to YYMMDD] [--format FORMAT] [FILE]`
 abbrev pub clashes : List Argument

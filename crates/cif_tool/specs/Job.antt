@@ -3,8 +3,7 @@ use Rattle.std.specs.Prelude.{Bool, IsSomeAnd, List, None, Option, Some, [], cod
 use Rattle.std.specs.Prelude.{string_bytes, true, unwrap_or, ℕ, ⊤, ◌++◌, ◌||◌, ◌∷◌, ◌≡◌, ◌≤◌}
 use Rattle.std.specs.Str.{bytes_eq}
 use Rattle.clap.specs.Words.{Row, Text, all_of, first_of}
-use Rattle.cif_canon.specs.declared.{asked.Asked.Asked, rows.Format.Format as ListingFormat}
-use Rattle.cif_canon.specs.declared.rows.Format.TheVariants as listing
+use Rattle.cif_canon.specs.declared.asked.Asked.{Asked}
 use Rattle.cif_rows.specs.declared.format.Format.{Format}
 use Rattle.cif_rows.specs.declared.format.Format.TheVariants as format
 use Rattle.cif_views.specs.declared.{listing.Listing.Listing, tables.Table.Table as TableOf}
@@ -75,7 +74,7 @@ is_set None = false
 abbrev pub has_flag : Text → List Row → Bool
 has_flag id rows = is_set (first_of id rows)
 
--- the format that the word of `--format` names, that of a table, and that of a listing
+-- the format that the word of `--format` names, and that of a table
 abbrev pub format_of : Option Text → Format
 format_of (Some word) =
     if bytes_eq word (codes "tsv") then format.Tsv else (if bytes_eq word (codes "json") then format.Json else format.Text)
@@ -85,13 +84,9 @@ abbrev pub table_format_of : Option Text → Format
 table_format_of (Some word) = if bytes_eq word (codes "json") then format.Json else format.Tsv
 table_format_of None = format.Tsv
 
-abbrev pub listing_format_of : Option Text → ListingFormat
-listing_format_of (Some word) = if bytes_eq word (codes "tsv") then listing.Tsv else listing.Text
-listing_format_of None = listing.Text
-
 -- the listing has this format, and the calls of each train if `--stops` is among the words
 abbrev pub listing_of : List Row → Listing
-listing_of rows = record { format = listing_format_of (first_of (codes "format") rows); calls = has_flag (codes "stops") rows }
+listing_of rows = record { format = format_of (first_of (codes "format") rows); calls = has_flag (codes "stops") rows }
 
 -- the table of this name
 abbrev pub table_of : Text → TableOf
@@ -137,7 +132,7 @@ IsChosen (Train job) met = (met.0 ≡ codes "train")
 IsChosen (Explain job) met = (met.0 ≡ codes "explain")
     × IsUidWord (required_word (codes "UID") met.1) job.uid
     × StandsInYymmdd (required_word (codes "YYMMDD") met.1) job.day
-    × (job.format ≡ listing_format_of (first_of (codes "format") met.1))
+    × (job.format ≡ format_of (first_of (codes "format") met.1))
 IsChosen (Clashes job) met = (met.0 ≡ codes "clashes")
     × IsAskedBy met.1 job.asked
     × (job.format ≡ format_of (first_of (codes "format") met.1))

@@ -5,9 +5,9 @@ use crate::devices::{ExtractInput, OutputState};
 use crate::job::Job;
 use crate::line_advice::Reader;
 use crate::message::{Message, Verbosity};
-use cif_canon::Format;
 use cif_columns::{Sink, Uid};
 use cif_extract::{Clash, Extract, Fault};
+use cif_rows::Format;
 use std::alloc::Global;
 use std::io;
 use std::io::Stderr;
@@ -146,7 +146,7 @@ impl OutputState {
     /// Whether there is a line in the output that isn't the heading of a table.
     fn has_row(&self, format: Format) -> bool {
         match format {
-            Format::Text => self.lines > 0,
+            Format::Text | Format::Json => self.lines > 0,
             Format::Tsv => self.lines > 1,
         }
     }

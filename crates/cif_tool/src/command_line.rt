@@ -8,7 +8,7 @@ ghost use Rattle.cif_tool.specs.CommandLine.{AreChoices, IsCommand, argument, ch
 use crate::help;
 use Argument::{
     All, Common, Date, DropClashes, File, Form, Format, FromDate, Full, Holidays, Left, Lenient,
-    ListingFormat, Right, Stops, Table, TableFormat, ToDate, Uid, Updates, Verbose,
+    Right, Stops, Table, TableFormat, ToDate, Uid, Updates, Verbose,
 };
 use clap::{Arg, ArgAction, ArgMatches, Command};
 use std::alloc::{AllocError, Global};
@@ -36,8 +36,6 @@ enum Syntax {
     Format,
     /// By `--ID FORMAT`, where a table in TSV is the default.
     TableFormat,
-    /// By `--ID FORMAT`, of a listing.
-    ListingFormat,
     /// By a word that may not be left out, and names a table.
     Table,
 }
@@ -64,7 +62,6 @@ enum Argument {
     Form,
     Format,
     TableFormat,
-    ListingFormat,
     Table,
 }
 
@@ -93,7 +90,6 @@ impl Argument {
             Form => ("form", Syntax::Form, help::FORM),
             Format => ("format", Syntax::Format, help::FORMAT),
             TableFormat => ("format", Syntax::TableFormat, help::FORMAT),
-            ListingFormat => ("format", Syntax::ListingFormat, help::FORMAT),
             Table => ("TABLE", Syntax::Table, help::TABLES),
         }
     }
@@ -102,14 +98,13 @@ impl Argument {
 /// What a subcommand is called, what help says of it, and what it takes.
 type Parts<'a> = (&'a str, &'a str, &'a [Argument]);
 
-/// The words that name a form, those that name a format, where there is text, in a table, and of a listing, and those
-/// that name a table.
+/// The words that name a form, those that name a format, those that name the format of a table, and those that name a
+/// table.
 #[derive(Clone, Copy)]
 pub(crate) struct Choices<'a> {
     forms: &'a [&'a str],
     formats: &'a [&'a str],
     table_formats: &'a [&'a str],
-    listing_formats: &'a [&'a str],
     tables: &'a [&'a str],
 }
 
@@ -121,7 +116,6 @@ pub(crate) fn all_choices() -> Choices<'static>
         forms: &["1", "2", "3"],
         formats: &["text", "tsv", "json"],
         table_formats: &["tsv", "json"],
-        listing_formats: &["text", "tsv"],
         tables: &[
             "header",
             "tiplocs",
@@ -152,9 +146,6 @@ fn arg_of<'a>(alloc: Global, given: (&'a str, Syntax, &'a str), choices: &Choice
         Syntax::Form => one_of_or(option(arg, id, "FORM"), choices.forms, "2"),
         Syntax::Format => one_of_or(option(arg, id, "FORMAT"), choices.formats, "text"),
         Syntax::TableFormat => one_of_or(option(arg, id, "FORMAT"), choices.table_formats, "tsv"),
-        Syntax::ListingFormat => {
-            one_of_or(option(arg, id, "FORMAT"), choices.listing_formats, "text")
-        }
         // Help would have them in a line of more than 80 columns.
         Syntax::Table => arg
             .required(true)
@@ -233,29 +224,16 @@ static SUBCOMMANDS: [Parts<'static>; 12] = [
         help::DIFF,
         &[Verbose, Left, Right, FromDate, ToDate, Common, Format],
     ),
-    (
-        "day",
-        help::DAY,
-        &[Verbose, Date, File, Stops, ListingFormat],
-    ),
+    ("day", help::DAY, &[Verbose, Date, File, Stops, Format]),
     (
         "train",
         help::TRAIN,
-        &[
-            Verbose,
-            Uid,
-            File,
-            FromDate,
-            ToDate,
-            Form,
-            Stops,
-            ListingFormat,
-        ],
+        &[Verbose, Uid, File, FromDate, ToDate, Form, Stops, Format],
     ),
     (
         "explain",
         help::EXPLAIN,
-        &[Verbose, Uid, Date, File, ListingFormat],
+        &[Verbose, Uid, Date, File, Format],
     ),
     (
         "clashes",

@@ -117,7 +117,7 @@ pub struct TrainJob {
 pub struct ExplainJob {
     pub uid: Uid,
     pub day: Day,
-    pub format: cif_canon::Format,
+    pub format: Format,
 }
 
 /// What `clashes` is asked for.

@@ -5,7 +5,7 @@ ghost use Rattle.clap.specs.Words.{all_of, first_of, found_of, kind_of, rows_of,
 ghost use Rattle.cif_columns.specs.Day.{StandsInYymmdd};
 ghost use Rattle.cif_tool.specs.CommandLine.{feed_subcommands};
 ghost use Rattle.cif_tool.specs.Job.{Asks, IsAskedBy, IsChosen, IsDateOf, IsRequestChosen};
-ghost use Rattle.cif_tool.specs.Job.{IsTaskChosen, IsUidWord, file_of, form_of, format_of, has_flag, inputs_of, is_standard, listing_format_of, listing_of};
+ghost use Rattle.cif_tool.specs.Job.{IsTaskChosen, IsUidWord, file_of, form_of, format_of, has_flag, inputs_of, is_standard, listing_of};
 ghost use Rattle.cif_tool.specs.Job.{names_of, required_word, standard_inputs, table_format_of, table_of};
 ghost use Rattle.cif_tool.specs.JobFault.{HasBadDate, HasBadWindow, IsAskedFor, IsEnteredFault};
 ghost use Rattle.cif_tool.specs.JobFault.{IsFaultOf, IsNoUid, IsNoneOf, NamesNoDay, several_of};
@@ -163,7 +163,7 @@ fn named_job(name: &str, matches: &ArgMatches<'_>) -> Result<Job, JobFault>
         "explain" => Ok(Job::Explain(ExplainJob {
             uid: uid_of(matches)?,
             day: day_of(matches)?,
-            format: listing_format_of(matches),
+            format: format_of(matches),
         })),
         "calendar" => Ok(Job::Calendar(CalendarJob {
             uid: uid_of(matches)?,
@@ -406,16 +406,6 @@ fn table_format_of(matches: &ArgMatches<'_>) -> Format
     }
 }
 
-/// The format of a listing that the words name.
-fn listing_format_of(matches: &ArgMatches<'_>) -> cif_canon::Format
-    ensures { result ≡ listing_format_of (first_of (codes "format") (rows_of (found_of matches.now))) }
-{
-    match word_of(matches, "format") {
-        Some("tsv") => cif_canon::Format::Tsv,
-        _ => cif_canon::Format::Text,
-    }
-}
-
 /// Whether the words have this flag.
 fn has_flag(matches: &ArgMatches<'_>, id: &str) -> bool
     ensures { result ≡ has_flag id.now (rows_of (found_of matches.now)) }
@@ -428,7 +418,7 @@ fn listing_of(matches: &ArgMatches<'_>) -> Listing
     ensures { result ≡ listing_of (rows_of (found_of matches.now)) }
 {
     Listing {
-        format: listing_format_of(matches),
+        format: format_of(matches),
         calls: has_flag(matches, "stops"),
     }
 }

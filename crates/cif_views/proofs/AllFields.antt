@@ -1,6 +1,12 @@
 -- The rows of associations, and of what is explained, have all fields; and those of records have all columns.
 use Rattle.cif_views.proofs.Names.{List, [], ap, append-nil, append_assoc, columns, drop, drop-drop, refl, sym, take, take-add, ℕ, ◌++◌}
 use Rattle.cif_views.{proofs.Names.◌+◌, proofs.Names.◌∙◌, proofs.Names.◌∷◌, proofs.Names.◌≡◌, specs.AllFields.TablesHaveColumns}
+use Rattle.cif_views.proofs.Names.{AssocBody, AssocKey, BodyLines, None, Option, Some, Terms, codes, day_names, explained_association_row, explained_train_row}
+use Rattle.cif_views.proofs.Names.{false, map, said_of_association, said_of_train, start_fields, train_names}
+use Rattle.cif_canon.specs.Rows.{association_names, no_association}
+use Rattle.cif_rows.specs.Row.{Field}
+use Rattle.cif_views.specs.AllFields.{CallsHaveAll, DayRowsHaveAll, ExplainedRowsHaveAll, TrainRowsHaveAll, table_with}
+use Rattle.cif_views.specs.{Explanation.explanation_names, declared.marks.Mark.Mark}
 
 -- pieces of so many columns, one behind another, and then the rest
 module _ (line : List ℕ) where
@@ -45,3 +51,41 @@ module _ (line : List ℕ) where
     stop = λ e. rw e (all-of 2 (7 ∷ 1 ∷ 5 ∷ 5 ∷ 5 ∷ 4 ∷ 4 ∷ 3 ∷ 3 ∷ 3 ∷ 12 ∷ 2 ∷ 2 ∷ 2 ∷ []));
     terminus = λ e. rw e (all-of 2 (7 ∷ 1 ∷ 5 ∷ 4 ∷ 3 ∷ 3 ∷ 12 ∷ []));
   }
+
+-- ---- names
+
+abbrev name_of : Field → List ℕ
+name_of f = f.name
+
+association-names : (key : AssocKey) (body : Option AssocBody) → map name_of (said_of_association key body) ≡ association_names
+association-names key (Some body) = refl
+association-names key None = refl
+
+train-names : (d : ℕ) (m : Mark) (uid : List ℕ) (r : Terms BodyLines) (body : Option BodyLines) →
+    map name_of (start_fields d m (codes "BS") r ++ (said_of_train uid body ++ no_association)) ≡ explanation_names
+train-names d m uid r (Some body) = refl
+train-names d m uid r None = refl
+
+pub explained-names : ExplainedRowsHaveAll
+unfolding explained_association_row explained_train_row
+explained-names = record {
+  association = λ d e. ap (λ (ns : List (List ℕ)). take 17 explanation_names ++ ns) (association-names e.key e.terms.body);
+  train = λ d e. train-names d e.mark e.key e.terms e.terms.body;
+}
+
+pub day-names : DayRowsHaveAll
+day-names = record {
+  association = λ d e. refl;
+  no_call = λ d e. refl;
+  train = λ d e. refl;
+  call = λ d e call is. ap (λ (ns : List (List ℕ)). day_names (table_with false) ++ ns) is;
+}
+
+pub train-rows : TrainRowsHaveAll
+train-rows = record {
+  schedule = λ uid r. refl;
+  call = λ uid r call is. ap (λ (ns : List (List ℕ)). train_names (table_with false) ++ ns) is;
+}
+
+pub call-names : CallsHaveAll
+call-names = record { origin = λ o. (refl, refl); stop = λ s. (refl, refl); terminus = λ t. (refl, refl) }

@@ -1,9 +1,9 @@
 -- The records that apply, with their marks, are the explanation.
 use Rattle.cif_views.proofs.Names.{AreExplained, AreMarked, ArePlacedInOrder, AssocBody, AssocKey, Association, BodyLines, Explained}
-use Rattle.cif_views.proofs.Names.{ExtractParts, Format, IsAssociationOf, IsExplanation, IsTrain, IsWithin, List, Placed, Schedule}
-use Rattle.cif_views.proofs.Names.{association_entries, explained_association_line, explained_train_line, explanation_heading, flat_map}
+use Rattle.cif_views.proofs.Names.{ExtractParts, IsAssociationOf, IsExplanation, IsTrain, IsWithin, List, Placed, Schedule}
+use Rattle.cif_views.proofs.Names.{association_entries, explained_association_row, explained_train_row, explanation_heading, flat_map}
 use Rattle.cif_views.proofs.Names.{header_window, key_cmp, nat_cmp, refl, schedule_entries, slice_cmp, subst, ℕ, ◌++◌, ◌≡◌}
-use Rattle.cif_views.proofs.Explaining.{explained}
+use Rattle.cif_views.proofs.{Explaining.explained, RowNames.Format, RowNames.row_text}
 
 pub explanation : (format : Format) (x : ExtractParts) (u : List ℕ) (d : ℕ) → IsWithin (header_window x.header) d
     → (entries : List Association) (placed : List (Placed AssocKey AssocBody)) (marked : List (Explained AssocKey AssocBody))
@@ -13,7 +13,7 @@ pub explanation : (format : Format) (x : ExtractParts) (u : List ℕ) (d : ℕ) 
     → trains ≡ x.schedules → ArePlacedInOrder (slice_cmp nat_cmp) IsTrain (schedule_entries trains) u d applying
     → AreMarked applying applying shown
     → IsExplanation format x u d (explanation_heading format
-    ++ (flat_map (explained_association_line format d) marked ++ flat_map (explained_train_line format d) shown))
+    ++ (flat_map (λ e. row_text format (explained_association_row d e)) marked ++ flat_map (λ e. row_text format (explained_train_row d e)) shown))
 explanation format x u d within entries placed marked same are marks trains applying shown alike be signs = record {
   within = within;
   associations = marked;

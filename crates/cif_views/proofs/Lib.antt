@@ -1,5 +1,5 @@
 mod AllFields
-pub mod CallTexts
+pub mod CallRows
 pub mod ClashLists
 mod DifferingCells
 pub mod DifferingFields

@@ -32,49 +32,45 @@ pub use Rattle.cif_weeks.proofs.Names.{AllWithin, IsAlignedTwo, at-contains, con
 pub use Rattle.cif_canon.proofs.AppendedTexts.{all-items, answered, both, fault-answered}
 pub use Rattle.cif_canon.proofs.{ByPairs.associations-by_pairs, ByPairs.same-keys, ByPairs.schedules-by_pairs, MergedSides.from-side}
 pub use Rattle.cif_canon.proofs.{MergedSides.side-member, Unique.extracts-unique, Unique.keys-total, ViewTexts.written-so}
-unfoldable pub use Rattle.cif_canon.proofs.Names.{long_date}
 pub use Rattle.cif_canon.proofs.Names.{All-cons, All-contains, All-drop, All-filter, All-head, All-nil, All-tail, All-take, AllFit}
 pub use Rattle.cif_canon.proofs.Names.{AllPairs-map, AreByPairs, AreClear, AreDifferences, AreDifferentRecords, AreDifferentTiplocs}
 pub use Rattle.cif_canon.proofs.Names.{AreLawful, AreLawful-of_key, AreNone, ArePair, ArePositionsOf, ArePrintable, AssocBody, AssocKey}
 pub use Rattle.cif_canon.proofs.Names.{BodyLines, BodyRuns, BytesSpell, C, CanonParts, Clash, ComesBefore, Contains-append_left}
 pub use Rattle.cif_canon.proofs.Names.{Contains-append_right, Contains-cases, Contains-first, Contains-from_map, Contains-map}
 pub use Rattle.cif_canon.proofs.Names.{Contains-none, Contains-permutation, Contains-push, Contains-rest, Decides-eqb, Detail}
-pub use Rattle.cif_canon.proofs.Names.{DifferencesParts, ExtractParts, Field, Form, IfOk-weaker, IsAccepted, IsAppended, IsBody, IsCanonOf}
+pub use Rattle.cif_canon.proofs.Names.{DifferencesParts, ExtractParts, Form, IfOk-weaker, IsAccepted, IsAppended, IsBody, IsCanonOf}
 pub use Rattle.cif_canon.proofs.Names.{IsCanonicalOf, IsClearExtract, IsFirstClashIn, IsOneWay, IsPrintable, IsTotalOrder, IsWithin, Listed}
 pub use Rattle.cif_canon.proofs.Names.{OnlySays, P, Permanent, Records, Runs, RunsOn, SameMeaning, Schedule, ScheduleFits, ScheduleLines}
 pub use Rattle.cif_canon.proofs.Names.{Sink, Terms, Tiploc, Two, Window, all_pairs_push, association_entries, association_entry}
 pub use Rattle.cif_canon.proofs.Names.{association_plain, at_side, basic_rows, by_pairs, bytes_decides, cases_lt, contents_of, detail_of}
-pub use Rattle.cif_canon.proofs.Names.{enumerate_from, extract_parts, extract_text, false≢true, fields_text, filter_passes}
+pub use Rattle.cif_canon.proofs.Names.{enumerate_from, extract_parts, extract_text, false≢true, filter_passes}
 pub use Rattle.cif_canon.proofs.Names.{first_clash-clear, flat_map-append, header_table, header_window, key_cmp, keyed, length-map}
-pub use Rattle.cif_canon.proofs.Names.{less_one_way, line_of, line_of_association, line_of_tiploc, lines_of_schedule, lines_text}
+pub use Rattle.cif_canon.proofs.Names.{less_one_way, line_of_association, line_of_tiploc, lines_of_schedule, lines_text}
 pub use Rattle.cif_canon.proofs.Names.{nat_list_cmp_total, nat_tests, nil_from_length, no_association, no_train, not-false, not_less}
 pub use Rattle.cif_canon.proofs.Names.{of_key, of_side, on_total, one_spelled, ordering_reverse, ordering_then, parts_in, permanent_entries}
-pub use Rattle.cif_canon.proofs.Names.{plain_line, plain_lines_of, pointwise, positions-records, record_of, row_start, same_Some}
-pub use Rattle.cif_canon.proofs.Names.{same_key-cmp, same_members, schedule_entries, schedule_entry, schedule_plain, shown, slice_cmp}
+pub use Rattle.cif_canon.proofs.Names.{plain_line, plain_lines_of, pointwise, positions-records, record_of, same_Some}
+pub use Rattle.cif_canon.proofs.Names.{same_key-cmp, same_members, schedule_entries, schedule_entry, schedule_plain, slice_cmp}
 pub use Rattle.cif_canon.proofs.Names.{slice_get-get_or, slice_get_within, spelled-fits, take_more, terms_at, terms_of, texts_ties}
-pub use Rattle.cif_canon.proofs.Names.{then_total, tiploc_table, trailer_table, train_fields, weekday_of, width, with_first}
-pub use Rattle.cif_canon.proofs.ViewLines.{both-after, explained-groups, joined-rows, printable-date, row-behind, spaces, with_first-line}
-pub use Rattle.cif_canon.specs.{Fields.in_table, Fields.trimmed, Lines.ExtractLines, Rows.schedule_row, Rows.train_row}
+pub use Rattle.cif_canon.proofs.Names.{then_total, tiploc_table, trailer_table, train_fields, weekday_of}
+pub use Rattle.cif_canon.specs.{Lines.ExtractLines, Rows.association_row, Rows.schedule_row, Rows.train_row}
 pub use Rattle.cif_canon.specs.{declared.listed_differences.Side.Side, declared.listed_differences.Side.TheVariants.Left}
 pub use Rattle.cif_canon.specs.{declared.listed_differences.Side.TheVariants.Right, declared.listed_differences.Sided.Sided}
-pub use Rattle.cif_canon.specs.{declared.rows.Format.Format, declared.rows.Format.TheVariants.Text, declared.rows.Format.TheVariants.Tsv}
-pub use Rattle.cif_canon.specs.{declared.rows.Shape.TheVariants.Trimmed, declared.rows.Shape.TheVariants.Whole}
 pub use Rattle.cif_canon.specs.Pairs.{association_lines, listed_as, parts_of, schedule_lines, tiploc_lines}
-pub use Rattle.cif_views.specs.Calls.{call_text, calls_text, origin_fields, terminus_fields}
+pub use Rattle.cif_views.specs.Calls.{call_names, calls_at, calls_in, listed_fields, nested_fields, origin_call, terminus_call}
 pub use Rattle.cif_views.specs.{Clashes.clash_line, Clashes.clashes_text, DifferenceTable.tiploc_row, DifferenceTable.without_extra}
 pub use Rattle.cif_views.specs.DifferenceTable.{difference_rows, difference_text}
-pub use Rattle.cif_views.specs.{Explanation.terms_fields, Steps.WeekCalendar.state_in, declared.columns.FieldPlace.FieldPlace}
+pub use Rattle.cif_views.specs.{Explanation.start_fields, Steps.WeekCalendar.state_in, declared.columns.FieldPlace.FieldPlace}
 pub use Rattle.cif_views.specs.{declared.columns.JourneyKind.JourneyKind, declared.marks.Mark.Mark}
 pub use Rattle.cif_views.specs.{declared.public_calls.CallTimes.CallTimes, declared.public_calls.Journey.Journey}
 pub use Rattle.cif_views.specs.{declared.public_calls.Riders.Riders, declared.public_calls.Shown.Shown, declared.tables.Table.Table}
-unfoldable pub use Rattle.cif_views.specs.{DifferenceTable.difference_table, Explanation.explained_association_line}
-unfoldable pub use Rattle.cif_views.specs.{Explanation.explained_train_line, Steps.DifferenceRows.field_row, TableText.table_text}
+unfoldable pub use Rattle.cif_views.specs.{DifferenceTable.difference_table, Explanation.explained_association_row}
+unfoldable pub use Rattle.cif_views.specs.{Explanation.explained_train_row, Steps.DifferenceRows.field_row, TableText.table_text}
 pub use Rattle.cif_views.specs.DifferenceTable.{association_differences, association_head, call_count, change_of, changed, difference_names}
 pub use Rattle.cif_views.specs.DifferenceTable.{differing_row, differing_rows, in_journey, in_record, journey_differences, own_fields}
 pub use Rattle.cif_views.specs.DifferenceTable.{place_columns, place_rows, schedule_differences, schedule_head, single_row, tiploc_head}
 pub use Rattle.cif_views.specs.Explanation.{AreExplained, Explained, HasWinningMark, IsAssociationOf, IsExplanation, IsMarked, IsTrain}
 pub use Rattle.cif_views.specs.Explanation.{SomeApplies, explanation_heading, mark_columns, said_of_association, said_of_train}
-pub use Rattle.cif_views.specs.Listing.{call_names_if, date_field, if_table, journey_names, lines_of_row, names_line, no_call, with_calls}
+pub use Rattle.cif_views.specs.Listing.{association_text, call_names_if, date_field, day_names, train_names, with_calls, without_calls}
 pub use Rattle.cif_views.specs.Moments.{IsBy, IsInDayFrom, in_day_from, midnight, time_text, two_digits_or_more}
 pub use Rattle.cif_views.specs.PublicCalls.{AreMoments, ArePublicCalls, AreShown, IsBehind, PublicCall, TimedCall, advertised, is_public}
 pub use Rattle.cif_views.specs.PublicCalls.{is_timed, left_at, public_fields, reached_at, riders_of, said_by, times_in, working}
@@ -91,7 +87,7 @@ pub use Rattle.cif_views.specs.Steps.Explanation.{AreMarked, AreMarkedOn, ArePla
 pub use Rattle.cif_views.specs.Steps.Explanation.{IsLike, IsMarkAmong, IsMarkAt, IsMarkOf, IsPlaced, IsRisingBy, Placed, marked_as}
 pub use Rattle.cif_views.specs.Steps.Explanation.{placed_at, placed_cmp, placed_of, unmarked}
 pub use Rattle.cif_views.specs.Steps.PublicRows.{IsJourneyBy, public_values, row_of_step}
-pub use Rattle.cif_views.specs.Steps.Rows.{first_field, heading_text, row_and_calls, row_lines, texts}
+pub use Rattle.cif_views.specs.Steps.Rows.{call_text, fields_of_call, first_field, listing_in, no_call_text, values_of}
 pub use Rattle.cif_views.specs.Steps.TableRows.{has_row, journey_columns, journey_rows, row_of_kind, rows_of}
 pub use Rattle.cif_views.specs.TableText.{schedule_rows, table_names, table_rows}
 pub use Rattle.cif_views.specs.Tables.{Numbered, NumberedSchedule, TableFields, call_fields, category_fields, change_fields, detail_fields}

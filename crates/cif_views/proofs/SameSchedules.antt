@@ -5,8 +5,8 @@ use Rattle.cif_views.proofs.Names.{ScheduleLines, Some, [], ap, arith, basic_col
 use Rattle.cif_views.proofs.Names.{enumerate_from, extra_columns, extra_fields, extra_in, extra_records, false, filter, filter_passes}
 use Rattle.cif_views.proofs.Names.{flat_map, get_or, has_row, is_call, journey_kind, journey_records, kind_of_line, length, map}
 use Rattle.cif_views.proofs.Names.{numbered_from, numbered_schedule, parts_in, plain_line, record_table, refl, row_values, schedule_fields}
-use Rattle.cif_views.proofs.Names.{schedule_plain, spaces, subst, sym, take, true, values_in, ℕ, ◌++◌, ◌+◌, ◌<◌, ◌^◌, ◌∙◌, ◌∷◌, ◌≡◌}
-use Rattle.cif_views.proofs.Names.{◌≤◌}
+use Rattle.cif_views.proofs.Names.{schedule_plain, subst, sym, take, true, values_in, ℕ, ◌++◌, ◌+◌, ◌<◌, ◌^◌, ◌∙◌, ◌∷◌, ◌≡◌}
+use Rattle.cif_views.proofs.Names.{ArePrintable, IsPrintable, replicate, ◌≤◌}
 use Rattle.cif_records.proofs.Records as records
 use Rattle.cif_records.specs.declared.record.Record.{Record}
 use Rattle.cif_records.specs.declared.record.Record.TheVariants as of
@@ -17,6 +17,11 @@ use Rattle.cif_rows.specs.Row.{IsSaid}
 use Rattle.cif_views.proofs.RowLines.{AreValues, IsPlain, are-values, cells_in, cells_of, is-line, number-said, one-line}
 use Rattle.cif_views.proofs.RowNames.{cell_of, number, trimmed}
 use Rattle.cif_views.proofs.SameJourneys.{IsNumbered, IsOfJourney, IsRow, are-numbered, listed_from, most, same-journey}
+use Rattle.std.proofs.lemmas.List.Elements.{All-replicate}
+
+-- so many spaces can be shown
+spaces : (n : ℕ) → ArePrintable (replicate n 32)
+spaces n = All-replicate IsPrintable n 32 (omega arith, omega arith)
 
 -- the lines of a schedule of a canonical extract; the numbers of its calls can be written
 pub record IsSchedule (s : ScheduleLines) : Type 0 where

@@ -1,56 +1,55 @@
--- Each row of a table has a field for each of its names.
-use Rattle.std.specs.Prelude.{◌≡◌, ℕ, Bool, true, false, List, [], ◌∷◌, ◌++◌, length, take}
+-- The fields of each row have the names that stand before a table.
+use Rattle.std.specs.Prelude.{◌≡◌, ℕ, Bool, true, false, List, [], ◌∷◌, ◌++◌, length, map, take}
 use Rattle.std.specs.List.{flat_map}
 use Rattle.cif_columns.specs.Field.{columns}
 use Rattle.cif_extract.specs.Body.{BodyLines}
 use Rattle.cif_records.specs.declared.{association.AssocBody.AssocBody, association.AssocKey.AssocKey, origin.Origin.Origin, stop.Stop.Stop}
 use Rattle.cif_records.specs.declared.{terminus.Terminus.Terminus}
 use Rattle.cif_weeks.specs.Permanent.{Permanent}
-use Rattle.cif_canon.specs.Fields.{Field, with_first}
-use Rattle.cif_canon.specs.{Rows.schedule_row, Rows.train_row, declared.rows.Format.TheVariants.Tsv}
-use Rattle.cif_views.specs.Calls.{call_names, origin_fields, stop_fields, terminus_fields}
-use Rattle.cif_rows.specs.Row.{Value}
+use Rattle.cif_canon.specs.Rows.{association_row, schedule_row, train_row}
+use Rattle.cif_rows.specs.{Row.Field, Row.Value, Row.absent, declared.format.Format.TheVariants.Tsv}
+use Rattle.cif_views.specs.Calls.{call_names, listed_fields, nested_fields, nested_names, origin_call, stop_call, terminus_call}
 use Rattle.cif_views.specs.DifferenceTable.{association_head, difference_names, differing_row, schedule_head, single_row, tiploc_head}
-use Rattle.cif_views.specs.Explanation.{Explained, explained_association_fields, explained_train_fields, explanation_names}
-use Rattle.cif_views.specs.Listing.{association_fields_of, date_field, day_names, train_names, uid_field}
+use Rattle.cif_views.specs.Explanation.{Explained, explained_association_row, explained_train_row, explanation_names}
+use Rattle.cif_views.specs.Listing.{date_field, day_names, train_names, uid_field}
 use Rattle.cif_views.specs.{Tables.tiploc_fields, declared.listing.Listing.Listing}
 use Rattle.cif_views.specs.Tables.{TableFields, association_fields, basic_fields, detail_fields, extra_fields}
 use Rattle.cif_views.specs.Tables.{header_fields, kind_of_line, location_and_suffix, own_call_fields, own_change_fields}
 use Rattle.cif_views.specs.declared.columns.JourneyKind.TheVariants as kind
 
--- as many fields as names
+-- the fields have these names, in order
 abbrev pub HasAll : List (List ℕ) → List Field → Type 0
-HasAll names row = length row ≡ length names
+HasAll names row = map (λ f. f.name) row ≡ names
 
 -- a table of a day or of a train, with or without calls
 abbrev pub table_with : Bool → Listing
 table_with calls = record { format = Tsv; calls = calls }
 
--- the fields of calls
+-- the fields of calls, in a row of their own and within the object of a train
 pub record CallsHaveAll : Type 0 where
-  pub origin : (o : Origin) → HasAll call_names (origin_fields o)
-  pub stop : (s : Stop) → HasAll call_names (stop_fields s)
-  pub terminus : (t : Terminus) → HasAll call_names (terminus_fields t)
+  pub origin : (o : Origin) → HasAll call_names (listed_fields (origin_call o)) × HasAll nested_names (nested_fields (origin_call o))
+  pub stop : (s : Stop) → HasAll call_names (listed_fields (stop_call s)) × HasAll nested_names (nested_fields (stop_call s))
+  pub terminus : (t : Terminus) → HasAll call_names (listed_fields (terminus_call t)) × HasAll nested_names (nested_fields (terminus_call t))
 
--- the rows of a day: of an association, of a train, and of a train with a call
+-- the rows of a day: of an association, of a train, and of each with a call
 pub record DayRowsHaveAll : Type 0 where
-  pub association : (calls : Bool) (d : ℕ) (e : AssocKey × AssocBody) →
-      HasAll (day_names (table_with calls)) (association_fields_of (table_with calls) (date_field d) e)
-  pub train : (d : ℕ) (e : List ℕ × BodyLines) → HasAll (day_names (table_with false)) (with_first Tsv (date_field d) (train_row Tsv e))
+  pub association : (d : ℕ) (e : AssocKey × AssocBody) → HasAll (day_names (table_with false)) (date_field d ∷ association_row e)
+  pub no_call : (d : ℕ) (e : AssocKey × AssocBody) →
+      HasAll (day_names (table_with true)) ((date_field d ∷ association_row e) ++ map absent call_names)
+  pub train : (d : ℕ) (e : List ℕ × BodyLines) → HasAll (day_names (table_with false)) (date_field d ∷ train_row e)
   pub call : (d : ℕ) (e : List ℕ × BodyLines) (call : List Field) → HasAll call_names call →
-      HasAll (day_names (table_with true)) (with_first Tsv (date_field d) (train_row Tsv e) ++ call)
+      HasAll (day_names (table_with true)) ((date_field d ∷ train_row e) ++ call)
 
 -- the rows of a train: of a schedule, and of a schedule with a call
 pub record TrainRowsHaveAll : Type 0 where
-  pub schedule : (uid : List ℕ) (r : Permanent BodyLines) →
-      HasAll (train_names (table_with false)) (with_first Tsv (uid_field uid) (schedule_row Tsv r))
+  pub schedule : (uid : List ℕ) (r : Permanent BodyLines) → HasAll (train_names (table_with false)) (uid_field uid ∷ schedule_row r)
   pub call : (uid : List ℕ) (r : Permanent BodyLines) (call : List Field) → HasAll call_names call →
-      HasAll (train_names (table_with true)) (with_first Tsv (uid_field uid) (schedule_row Tsv r) ++ call)
+      HasAll (train_names (table_with true)) ((uid_field uid ∷ schedule_row r) ++ call)
 
 -- the rows of an explanation
 pub record ExplainedRowsHaveAll : Type 0 where
-  pub association : (d : ℕ) (e : Explained AssocKey AssocBody) → HasAll explanation_names (explained_association_fields Tsv d e)
-  pub train : (d : ℕ) (e : Explained (List ℕ) BodyLines) → HasAll explanation_names (explained_train_fields Tsv d e)
+  pub association : (d : ℕ) (e : Explained AssocKey AssocBody) → HasAll explanation_names (explained_association_row d e)
+  pub train : (d : ℕ) (e : Explained (List ℕ) BodyLines) → HasAll explanation_names (explained_train_row d e)
 
 -- The rows of differences: of what only one side has, and of a field of a pair. Those of a location, of an association and of a schedule
 -- begin with as many values.

@@ -1,5 +1,5 @@
 -- Why a train does or doesn't run on a day, and why its associations hold or don't: the records that apply, each with a mark.
-use Rattle.std.specs.Prelude.{◌≡◌, ◌⊎◌, ℕ, List, ◌∷◌, [], ◌++◌, Option, Some, None, AllPairs, Contains, codes, slice_get}
+use Rattle.std.specs.Prelude.{◌≡◌, ◌⊎◌, ℕ, List, ◌∷◌, [], ◌++◌, Option, Some, None, AllPairs, Contains, codes, map, slice_get}
 use Rattle.std.specs.{Cmp.Lexicographic.slice_cmp, List.flat_map, Ordering.nat_cmp, Ordering.ordering_then}
 use Rattle.std.specs.declared.{cmp.Ordering.Ordering, cmp.Ordering.TheVariants.Less}
 use Rattle.cif_calendar.specs.{Applies.Applies, Clash.IsClash, Clash.IsClear, Entries.association_entries, Entries.schedule_entries}
@@ -9,12 +9,12 @@ use Rattle.cif_extract.specs.{Body.BodyLines, ExtractParts.ExtractParts, declare
 use Rattle.cif_extract.specs.declared.fault.Fault.TheVariants.{Memory, OutsideWindow, Write}
 use Rattle.cif_records.specs.{AssocKey.key_cmp, declared.association.AssocBody.AssocBody, declared.association.AssocKey.AssocKey}
 use Rattle.cif_weeks.specs.Window.{IsWithin}
-use Rattle.cif_canon.specs.{Asked.header_window, declared.rows.Format.Format}
-use Rattle.cif_canon.specs.Fields.{Field, left_out, line_of, with_first}
-use Rattle.cif_canon.specs.Rows.{association_fields, no_association, no_train, train_fields}
-use Rattle.cif_views.specs.Listing.{association_names, date_field, if_table, journey_names, names_line}
+use Rattle.cif_canon.specs.Asked.{header_window}
+use Rattle.cif_canon.specs.Rows.{association_fields, association_names, journey_names, no_association, no_train, train_fields}
+use Rattle.cif_rows.specs.Row.{Field, absent, heading_text, named, row_text, text}
+use Rattle.cif_rows.specs.declared.{format.Format.Format, shape.Shape.TheVariants.Date, shape.Shape.TheVariants.Whole}
+use Rattle.cif_views.specs.Listing.{date_field}
 use Rattle.cif_views.specs.declared.marks.Mark.{Mark}
-use Rattle.cif_canon.specs.declared.rows.Shape.TheVariants.{Date, Trimmed, Whole}
 use Rattle.cif_views.specs.declared.marks.Mark.TheVariants as mark
 
 -- The mark of a record among those of its key: it wins on day d and all winners have its body; or it wins and they haven't; or it
@@ -73,54 +73,51 @@ mark_columns mark.Wins = codes "wins  "
 mark_columns mark.Clash = codes "clash "
 mark_columns mark.Hidden = codes "hidden"
 
--- a record's letter, its dates and its mask
-abbrev pub terms_fields : {B : Type 0} → Terms B → List Field
-terms_fields r =
-    (Trimmed, letter r.letter ∷ []) ∷ (Date, yymmdd_of r.first) ∷ (Date, yymmdd_of r.last) ∷ (Trimmed, days_columns r.days) ∷ []
+-- what rows begin with: the date, the mark and the kind, and the record's letter, its dates and its mask
+abbrev pub start_fields : {B : Type 0} → ℕ → Mark → List ℕ → Terms B → List Field
+start_fields d m kind r =
+    date_field d ∷ named (codes "mark") (text (mark_columns m)) ∷ named (codes "kind") (text kind)
+    ∷ named (codes "stp_indicator") (text (letter r.letter ∷ []))
+    ∷ named (codes "first_date") (Date, yymmdd_of r.first) ∷ named (codes "last_date") (Date, yymmdd_of r.last)
+    ∷ named (codes "days_run") (text (days_columns r.days)) ∷ []
 
 -- what an association says: the fields of the day view, and of a cancellation those of its key alone
-abbrev pub said_of_association : Format → AssocKey → Option AssocBody → List Field
-said_of_association format key (Some body) = association_fields (key, body)
-said_of_association format key None =
-    (Whole, key.base)
-    ∷ (Whole, key.associated)
-    ∷ (left_out format 2
-    ++ ((Trimmed, left_justified 7 key.location)
-    ∷ (Trimmed, left_justified 1 key.base_suffix)
-    ∷ (Trimmed, left_justified 1 key.associated_suffix)
-    ∷ left_out format 2))
+abbrev pub said_of_association : AssocKey → Option AssocBody → List Field
+said_of_association key (Some body) = association_fields (key, body)
+said_of_association key None =
+    named (codes "base_uid") (Whole, key.base)
+    ∷ named (codes "associated_uid") (Whole, key.associated)
+    ∷ absent (codes "association_category")
+    ∷ absent (codes "date_indicator")
+    ∷ named (codes "association_location") (text (left_justified 7 key.location))
+    ∷ named (codes "base_suffix") (text (left_justified 1 key.base_suffix))
+    ∷ named (codes "associated_suffix") (text (left_justified 1 key.associated_suffix))
+    ∷ absent (codes "diagram_type")
+    ∷ absent (codes "association_type")
+    ∷ []
 
 -- what a schedule says: the fields of the day view, and of a cancellation its train alone
-abbrev pub said_of_train : Format → List ℕ → Option BodyLines → List Field
-said_of_train format uid (Some body) = train_fields format (uid, body)
-said_of_train format uid None = (Whole, uid) ∷ left_out format 9
+abbrev pub said_of_train : List ℕ → Option BodyLines → List Field
+said_of_train uid (Some body) = train_fields (uid, body)
+said_of_train uid None = named (codes "uid") (Whole, uid) ∷ map absent journey_names
 
--- the row of an association on day d, and that of a schedule; each begins with the date, if it is the row of a table
-abbrev pub explained_association_fields : Format → ℕ → Explained AssocKey AssocBody → List Field
-explained_association_fields format d e =
-    with_first format (date_field d) ((Trimmed, mark_columns e.mark) ∷ (Trimmed, codes "AA")
-    ∷ (terms_fields e.terms ++ (no_train format ++ said_of_association format e.key e.terms.body)))
+-- the row of an association on day d, and that of a schedule
+unfoldable pub explained_association_row : ℕ → Explained AssocKey AssocBody → List Field
+explained_association_row d e =
+    start_fields d e.mark (codes "AA") e.terms ++ (no_train ++ said_of_association e.key e.terms.body)
 
-abbrev pub explained_train_fields : Format → ℕ → Explained (List ℕ) BodyLines → List Field
-explained_train_fields format d e =
-    with_first format (date_field d) ((Trimmed, mark_columns e.mark) ∷ (Trimmed, codes "BS")
-    ∷ (terms_fields e.terms ++ (said_of_train format e.key e.terms.body ++ no_association format)))
+unfoldable pub explained_train_row : ℕ → Explained (List ℕ) BodyLines → List Field
+explained_train_row d e =
+    start_fields d e.mark (codes "BS") e.terms ++ (said_of_train e.key e.terms.body ++ no_association)
 
--- their lines
-unfoldable pub explained_association_line : Format → ℕ → Explained AssocKey AssocBody → List ℕ
-explained_association_line format d e = line_of format (explained_association_fields format d e)
-
-unfoldable pub explained_train_line : Format → ℕ → Explained (List ℕ) BodyLines → List ℕ
-explained_train_line format d e = line_of format (explained_train_fields format d e)
-
--- the names of their fields, and the first line of a table
+-- the names of their fields, which stand before the rows of a table
 abbrev pub explanation_names : List (List ℕ)
 explanation_names =
     codes "date" ∷ codes "mark" ∷ codes "kind" ∷ codes "stp_indicator" ∷ codes "first_date" ∷ codes "last_date" ∷ codes "days_run"
     ∷ codes "uid" ∷ (journey_names ++ association_names)
 
 abbrev pub explanation_heading : Format → List ℕ
-explanation_heading format = if_table format (names_line explanation_names)
+explanation_heading format = heading_text format explanation_names
 
 -- an association is of both its trains, the base and the associated one
 abbrev pub IsAssociationOf : AssocKey → List ℕ → Type 0
@@ -130,7 +127,7 @@ IsAssociationOf key u = (key.base ≡ u) ⊎ (key.associated ≡ u)
 abbrev pub IsTrain : List ℕ → List ℕ → Type 0
 IsTrain uid u = uid ≡ u
 
--- The day is in the window of the extract, and the text has the heading, a line for each record of the associations of train u, and then
+-- The day is in the window of the extract, and the text has the heading, a row for each record of the associations of train u, and then
 -- one for each of its schedules, of those that apply on the day.
 pub record IsExplanation (format : Format) (x : ExtractParts) (u : List ℕ) (d : ℕ) (text : List ℕ) : Type 0 where
   pub within : IsWithin (header_window x.header) d
@@ -140,7 +137,8 @@ pub record IsExplanation (format : Format) (x : ExtractParts) (u : List ℕ) (d 
   pub of_trains : AreExplained (slice_cmp nat_cmp) IsTrain (schedule_entries x.schedules) u d trains
   pub text_is :
       text ≡ explanation_heading format
-      ++ (flat_map (explained_association_line format d) associations ++ flat_map (explained_train_line format d) trains)
+      ++ (flat_map (λ e. row_text format (explained_association_row d e)) associations
+      ++ flat_map (λ e. row_text format (explained_train_row d e)) trains)
 
 -- why there is no explanation: the day is outside the window; or else memory ran out, or the sink failed
 abbrev pub IsExplanationFault : ExtractParts → ℕ → Fault → Type 0

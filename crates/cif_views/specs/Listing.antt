@@ -1,68 +1,53 @@
--- What is listed of a day and of a train: lines of text or the rows of a table, with or without the calls of trains.
-use Rattle.std.specs.Prelude.{ℕ, List, ◌∷◌, [], ◌++◌, codes, if◌then◌else◌}
+-- What is listed of a day and of a train: rows, with or without the calls of trains.
+use Rattle.std.specs.Prelude.{ℕ, List, ◌∷◌, [], ◌++◌, codes, if◌then◌else◌, map}
+use Rattle.std.specs.List.{flat_map}
 use Rattle.cif_columns.specs.DayDigits.{yymmdd_of}
 use Rattle.cif_extract.specs.{Body.BodyLines, ExtractParts.ExtractParts}
 use Rattle.cif_records.specs.declared.{association.AssocBody.AssocBody, association.AssocKey.AssocKey}
 use Rattle.cif_weeks.specs.{Permanent.Permanent, declared.form.Form.Form}
-use Rattle.cif_canon.specs.Fields.{Field, left_out, line_of, with_first}
-use Rattle.cif_canon.specs.Rows.{association_fields, no_train, schedule_row, train_row}
+use Rattle.cif_rows.specs.Row.{Field, Value, absent, heading_text, hidden, row_text, row_with_calls}
+use Rattle.cif_rows.specs.declared.format.Format.{Format}
+use Rattle.cif_rows.specs.declared.format.Format.TheVariants.{Json, Text, Tsv}
+use Rattle.cif_rows.specs.declared.shape.Shape.TheVariants.{Date, Whole}
+use Rattle.cif_canon.specs.Rows.{association_names, association_row, journey_names, schedule_row, train_row}
 use Rattle.cif_canon.specs.Views.{DayTexts, IsDayListed, IsTrainListed, TrainTexts}
-use Rattle.cif_canon.specs.declared.{rows.Format.Format, rows.Format.TheVariants.Text, rows.Format.TheVariants.Tsv}
-use Rattle.cif_canon.specs.declared.rows.Shape.TheVariants.{Date, Trimmed, Whole}
-use Rattle.std.specs.List.{join_with_byte}
-use Rattle.cif_views.specs.{Calls.call_names, Calls.calls_text, declared.listing.Listing.Listing}
-
--- the line of some names
-abbrev pub names_line : List (List ℕ) → List ℕ
-names_line names = join_with_byte 9 names ++ codes "\n"
-
--- In a table with calls an association has the twelve fields of a call too, empty.
-abbrev pub no_call : Listing → List Field
-no_call listing = if listing.calls then left_out listing.format 12 else []
+use Rattle.cif_views.specs.{Calls.listed_fields, Calls.call_names, Calls.calls_in, Calls.nested_fields, declared.listing.Listing.Listing}
 
 -- what the rows of a table begin with: the date of a day, and the UID of a train
 abbrev pub date_field : ℕ → Field
-date_field d = (Date, yymmdd_of d)
+date_field d = hidden (codes "date") (Date, yymmdd_of d)
 
 abbrev pub uid_field : List ℕ → Field
-uid_field uid = (Whole, uid)
+uid_field uid = hidden (codes "uid") (Whole, uid)
 
--- the row of an association that holds, with its own first field
-abbrev pub association_fields_of : Listing → Field → AssocKey × AssocBody → List Field
-association_fields_of listing first e =
-    with_first listing.format first ((Trimmed, codes "AA") ∷ (no_train listing.format ++ (association_fields e ++ no_call listing)))
+-- A row with calls is a line of text, with a line for each call below it; in a table it is repeated before each call, and in JSON it has
+-- them as a list.
+abbrev pub with_calls : Format → List Field → List (List Value) → List ℕ
+with_calls Text row calls = row_text Text row ++ flat_map (λ call. row_text Text (listed_fields call)) calls
+with_calls Tsv row calls = flat_map (λ call. row_text Tsv (row ++ listed_fields call)) calls
+with_calls Json row calls = row_with_calls row (map nested_fields calls)
 
--- its line
-unfoldable pub association_line : Listing → Field → AssocKey × AssocBody → List ℕ
-association_line listing first e = line_of listing.format (association_fields_of listing first e)
+-- An association has no calls: in a table the fields of a call are empty.
+abbrev pub without_calls : Format → List Field → List ℕ
+without_calls Text row = row_text Text row
+without_calls Tsv row = row_text Tsv (row ++ map absent call_names)
+without_calls Json row = row_with_calls row []
 
--- A row with calls is a line of text, with a line for each call below it; in a table it is repeated before each call.
-abbrev pub with_calls : Format → List Field → BodyLines → List ℕ
-with_calls Text row b = line_of Text row ++ calls_text (line_of Text) b
-with_calls Tsv row b = calls_text (λ call. line_of Tsv (row ++ call)) b
+-- what is listed of an association that holds, of a train that runs, and of a canonical schedule, by the first field
+abbrev pub association_text : Listing → Field → AssocKey × AssocBody → List ℕ
+association_text listing first e =
+    let row = first ∷ association_row e in if listing.calls then without_calls listing.format row else row_text listing.format row
 
--- the lines of a train: of its row, with its calls if they are listed
-abbrev pub lines_of_row : Listing → List Field → BodyLines → List ℕ
-lines_of_row listing row b = if listing.calls then with_calls listing.format row b else line_of listing.format row
+abbrev pub text_of_row : Listing → List Field → BodyLines → List ℕ
+text_of_row listing row b = if listing.calls then with_calls listing.format row (calls_in b) else row_text listing.format row
 
--- what is listed of a train that runs, and of a canonical schedule
 abbrev pub train_text : Listing → Field → List ℕ × BodyLines → List ℕ
-train_text listing first e = lines_of_row listing (with_first listing.format first (train_row listing.format e)) e.1
+train_text listing first e = text_of_row listing (first ∷ train_row e) e.1
 
 abbrev pub schedule_text : Listing → Field → Permanent BodyLines → List ℕ
-schedule_text listing first r = lines_of_row listing (with_first listing.format first (schedule_row listing.format r)) r.body
+schedule_text listing first r = text_of_row listing (first ∷ schedule_row r) r.body
 
--- the names of the fields of a journey, of an association, and of a call if calls are listed
-abbrev pub journey_names : List (List ℕ)
-journey_names =
-    codes "identity" ∷ codes "origin" ∷ codes "origin_suffix" ∷ codes "departure" ∷ codes "origin_platform" ∷ codes "terminus"
-    ∷ codes "terminus_suffix" ∷ codes "arrival" ∷ codes "terminus_platform" ∷ []
-
-abbrev pub association_names : List (List ℕ)
-association_names =
-    codes "base_uid" ∷ codes "associated_uid" ∷ codes "association_category" ∷ codes "date_indicator" ∷ codes "association_location"
-    ∷ codes "base_suffix" ∷ codes "associated_suffix" ∷ codes "diagram_type" ∷ codes "association_type" ∷ []
-
+-- the names of the fields of a call, if a row has them
 abbrev pub call_names_if : Listing → List (List ℕ)
 call_names_if listing = if listing.calls then call_names else []
 
@@ -75,21 +60,16 @@ abbrev pub train_names : Listing → List (List ℕ)
 train_names listing =
     codes "uid" ∷ codes "first_date" ∷ codes "last_date" ∷ codes "days_run" ∷ (journey_names ++ call_names_if listing)
 
--- the first line of a table, which text doesn't have
-abbrev pub if_table : Format → List ℕ → List ℕ
-if_table Text line = []
-if_table Tsv line = line
-
 abbrev pub day_heading : Listing → List ℕ
-day_heading listing = if_table listing.format (names_line (day_names listing))
+day_heading listing = heading_text listing.format (day_names listing)
 
 abbrev pub train_heading : Listing → List ℕ
-train_heading listing = if_table listing.format (names_line (train_names listing))
+train_heading listing = heading_text listing.format (train_names listing)
 
 abbrev pub day_texts : Listing → ℕ → DayTexts
 day_texts listing d = record {
   heading = day_heading listing;
-  association = association_line listing (date_field d);
+  association = association_text listing (date_field d);
   train = train_text listing (date_field d);
 }
 

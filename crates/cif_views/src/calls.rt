@@ -1,187 +1,379 @@
-//! The lines of a train's calls.
-ghost use Rattle.std.specs.Prelude.{◌≡◌, ◌+◌, ◌≤◌, ◌++◌, ◌∷◌, length, map};
+//! The calls of a train, each below its line, behind its row, or within its object.
+ghost use Rattle.std.specs.Prelude.{◌≡◌, ◌<◌, List, length};
 ghost use Rattle.std.specs.List.{flat_map};
-ghost use Rattle.arrayvec.specs.ArrayString.{array_string_len};
-ghost use Rattle.cif_columns.specs.Line.{ArePrintable};
-ghost use Rattle.cif_canon.specs.{Appended.IsAppended, Fields.AreFields, Fields.line_of, Fields.width};
-ghost use Rattle.cif_canon.specs.declared.rows.Shape.TheVariants.{Trimmed};
-ghost use Rattle.cif_views.specs.Calls.{call_text, calls_text, origin_fields, stop_fields, terminus_fields};
-ghost use Rattle.cif_views.specs.Steps.Rows.{row_lines};
+ghost use Rattle.cif_rows.specs.{Adds.Adds, Appended.IsAppended, Row.row_text, Steps.fields_text};
+ghost use Rattle.cif_views.specs.Calls.{calls_at, calls_in, origin_call, stop_call, terminus_call};
+ghost use Rattle.cif_views.specs.Listing.{with_calls, without_calls};
+ghost use Rattle.cif_views.specs.Steps.Rows.{call_text, fields_of_call, no_call_text, values_of};
 
-use crate::listing::Listing;
-use arrayvec::ArrayString;
-use cif_canon::rows::{LONGEST_ROW, push_field, started};
-use cif_canon::writing::append;
-use cif_canon::{Format, Shape};
 use cif_columns::{Sink, WriteDevice};
 use cif_extract::{Body, Call, Calls};
 use cif_records::{Origin, Stop, Terminus};
+use cif_rows::{Format, Padding, RowFormat, Rows, Shape};
 
 /// The columns of a time, a public time, a platform, a path or a line that a record doesn't have.
-const NO_WORK_TIME: &[u8] = b"     ";
+const NO_WORK_TIME: [u8; 5] = *b"     ";
 
-const NO_PUBLIC_TIME: &[u8] = b"    ";
+const NO_PUBLIC_TIME: [u8; 4] = *b"    ";
 
-const NO_TRACK: &[u8] = b"   ";
+const NO_TRACK: [u8; 3] = *b"   ";
 
-/// The line of a call of this kind, with these fields.
-fn call_line(format: Format, kind: &[u8], fields: &[&[u8]]) -> ArrayString<LONGEST_ROW>
-    requires kind { ArePrintable kind.now }
-    requires fields { AreFields (map (λ field. (Trimmed, field.now)) fields.now) }
-    requires room { length kind.now + width (map (λ field. (Trimmed, field.now)) fields.now) + 1 ≤ LONGEST_ROW }
-    ensures { result.bytes ≡ line_of format ((Trimmed, kind.now) ∷ map (λ field. (Trimmed, field.now)) fields.now) }
+/// The names of the fields of a call.
+pub(crate) const CALL_NAMES: [&str; 12] = [
+    "call",
+    "call_location",
+    "call_suffix",
+    "call_arrival",
+    "call_departure",
+    "call_pass",
+    "call_public_arrival",
+    "call_public_departure",
+    "call_platform",
+    "call_path",
+    "call_line",
+    "call_activities",
+];
+
+/// The row of an association, of a train or of a schedule.
+pub(crate) trait RowSource {
+    ghost use Rattle.std.specs.Prelude.{◌<◌, List, length};
+    ghost use Rattle.cif_rows.specs.{Adds.Adds, Row.Field, Steps.fields_text, declared.format.Format.Format};
+
+    // Its fields.
+    ghost fields: { Self → List Field };
+
+    /// Adds the fields of the row.
+    fn push_row<F: RowFormat, W: WriteDevice>(&self, rows: &mut Rows<F>, sink: &mut Sink<W>)
+        ensures adds { Adds W.contents W.write_errors (fields_text F.FORMAT (fields self.now)) sink.old sink.new rows.old rows.new }
+        ensures some { (format : Format) → 0 < length (fields_text format (fields self.now)) };
+}
+
+/// The columns of a call.
+#[derive(Clone, Copy)]
+struct CallColumns {
+    record: [u8; 2],
+    location: [u8; 7],
+    suffix: [u8; 1],
+    arrival: [u8; 5],
+    departure: [u8; 5],
+    pass: [u8; 5],
+    public_arrival: [u8; 4],
+    public_departure: [u8; 4],
+    platform: [u8; 3],
+    path: [u8; 3],
+    line: [u8; 3],
+    activities: [u8; 12],
+}
+
+/// The call of an origin.
+fn origin_call(origin: &Origin) -> CallColumns
+    ensures { values_of result ≡ origin_call origin.now }
 {
-    let mut line = started("", format, Shape::Trimmed, kind);
-    for field in fields {
-        push_field(&mut line, format, Shape::Trimmed, field);
+    CallColumns {
+        record: *b"LO",
+        location: origin.location.write(),
+        suffix: origin.suffix.write(),
+        arrival: NO_WORK_TIME,
+        departure: origin.departure.write(),
+        pass: NO_WORK_TIME,
+        public_arrival: NO_PUBLIC_TIME,
+        public_departure: origin.public_departure.write(),
+        platform: origin.platform.write(),
+        path: NO_TRACK,
+        line: origin.line.write(),
+        activities: origin.activities.write(),
     }
-    line.push_str("\n");
-    line
 }
 
-/// The line of an origin.
-fn origin_line(format: Format, origin: &Origin) -> ArrayString<LONGEST_ROW>
-    ensures { result.bytes ≡ line_of format (origin_fields origin.now) }
+/// The call of a location on the way.
+fn stop_call(stop: &Stop) -> CallColumns
+    ensures { values_of result ≡ stop_call stop.now }
 {
-    call_line(
-        format,
-        b"LO",
-        &[
-            &origin.location.write(),
-            &origin.suffix.write(),
-            NO_WORK_TIME,
-            &origin.departure.write(),
-            NO_WORK_TIME,
-            NO_PUBLIC_TIME,
-            &origin.public_departure.write(),
-            &origin.platform.write(),
-            NO_TRACK,
-            &origin.line.write(),
-            &origin.activities.write(),
-        ],
-    )
+    CallColumns {
+        record: *b"LI",
+        location: stop.location.write(),
+        suffix: stop.suffix.write(),
+        arrival: stop.arrival.write(),
+        departure: stop.departure.write(),
+        pass: stop.pass.write(),
+        public_arrival: stop.public_arrival.write(),
+        public_departure: stop.public_departure.write(),
+        platform: stop.platform.write(),
+        path: stop.path.write(),
+        line: stop.line.write(),
+        activities: stop.activities.write(),
+    }
 }
 
-/// The line of a location on the way.
-fn stop_line(format: Format, stop: &Stop) -> ArrayString<LONGEST_ROW>
-    ensures { result.bytes ≡ line_of format (stop_fields stop.now) }
+/// The call of a terminus.
+fn terminus_call(terminus: &Terminus) -> CallColumns
+    ensures { values_of result ≡ terminus_call terminus.now }
 {
-    call_line(
-        format,
-        b"LI",
-        &[
-            &stop.location.write(),
-            &stop.suffix.write(),
-            &stop.arrival.write(),
-            &stop.departure.write(),
-            &stop.pass.write(),
-            &stop.public_arrival.write(),
-            &stop.public_departure.write(),
-            &stop.platform.write(),
-            &stop.path.write(),
-            &stop.line.write(),
-            &stop.activities.write(),
-        ],
-    )
+    CallColumns {
+        record: *b"LT",
+        location: terminus.location.write(),
+        suffix: terminus.suffix.write(),
+        arrival: terminus.arrival.write(),
+        departure: NO_WORK_TIME,
+        pass: NO_WORK_TIME,
+        public_arrival: terminus.public_arrival.write(),
+        public_departure: NO_PUBLIC_TIME,
+        platform: terminus.platform.write(),
+        path: terminus.path.write(),
+        line: NO_TRACK,
+        activities: terminus.activities.write(),
+    }
 }
 
-/// The line of a terminus.
-fn terminus_line(format: Format, terminus: &Terminus) -> ArrayString<LONGEST_ROW>
-    ensures { result.bytes ≡ line_of format (terminus_fields terminus.now) }
+/// Adds the fields of a call. Within an object their names don't begin with `call_`.
+fn push_call<F: RowFormat, W: WriteDevice>(
+    rows: &mut Rows<F>,
+    call: &CallColumns,
+    sink: &mut Sink<W>,
+)
+    ensures { Adds W.contents W.write_errors (fields_text F.FORMAT (fields_of_call F.FORMAT (values_of call.now)))
+        sink.old sink.new rows.old rows.new }
 {
-    call_line(
-        format,
-        b"LT",
-        &[
-            &terminus.location.write(),
-            &terminus.suffix.write(),
-            &terminus.arrival.write(),
-            NO_WORK_TIME,
-            NO_WORK_TIME,
-            &terminus.public_arrival.write(),
-            NO_PUBLIC_TIME,
-            &terminus.platform.write(),
-            &terminus.path.write(),
-            NO_TRACK,
-            &terminus.activities.write(),
-        ],
-    )
+    match F::FORMAT {
+        Format::Text | Format::Tsv => rows.push_fields(
+            sink,
+            &[
+                ("call", Padding::Apart, Shape::Trimmed, &call.record),
+                (
+                    "call_location",
+                    Padding::Apart,
+                    Shape::Trimmed,
+                    &call.location,
+                ),
+                ("call_suffix", Padding::Apart, Shape::Trimmed, &call.suffix),
+                (
+                    "call_arrival",
+                    Padding::Apart,
+                    Shape::Trimmed,
+                    &call.arrival,
+                ),
+                (
+                    "call_departure",
+                    Padding::Apart,
+                    Shape::Trimmed,
+                    &call.departure,
+                ),
+                ("call_pass", Padding::Apart, Shape::Trimmed, &call.pass),
+                (
+                    "call_public_arrival",
+                    Padding::Apart,
+                    Shape::Trimmed,
+                    &call.public_arrival,
+                ),
+                (
+                    "call_public_departure",
+                    Padding::Apart,
+                    Shape::Trimmed,
+                    &call.public_departure,
+                ),
+                (
+                    "call_platform",
+                    Padding::Apart,
+                    Shape::Trimmed,
+                    &call.platform,
+                ),
+                ("call_path", Padding::Apart, Shape::Trimmed, &call.path),
+                ("call_line", Padding::Apart, Shape::Trimmed, &call.line),
+                (
+                    "call_activities",
+                    Padding::Apart,
+                    Shape::Trimmed,
+                    &call.activities,
+                ),
+            ],
+        ),
+        Format::Json => rows.push_fields(
+            sink,
+            &[
+                ("record", Padding::Apart, Shape::Trimmed, &call.record),
+                ("location", Padding::Apart, Shape::Trimmed, &call.location),
+                ("suffix", Padding::Apart, Shape::Trimmed, &call.suffix),
+                ("arrival", Padding::Apart, Shape::Trimmed, &call.arrival),
+                ("departure", Padding::Apart, Shape::Trimmed, &call.departure),
+                ("pass", Padding::Apart, Shape::Trimmed, &call.pass),
+                (
+                    "public_arrival",
+                    Padding::Apart,
+                    Shape::Trimmed,
+                    &call.public_arrival,
+                ),
+                (
+                    "public_departure",
+                    Padding::Apart,
+                    Shape::Trimmed,
+                    &call.public_departure,
+                ),
+                ("platform", Padding::Apart, Shape::Trimmed, &call.platform),
+                ("path", Padding::Apart, Shape::Trimmed, &call.path),
+                ("line", Padding::Apart, Shape::Trimmed, &call.line),
+                (
+                    "activities",
+                    Padding::Apart,
+                    Shape::Trimmed,
+                    &call.activities,
+                ),
+            ],
+        ),
+    }
 }
 
-/// Appends what stands before a call's line, and the line.
-fn write_both<W: WriteDevice>(before: &str, line: &ArrayString<LONGEST_ROW>, sink: &mut Sink<W>)
-    ensures { IsAppended W.contents W.write_errors (before.now ++ line.now.bytes) sink.old sink.new }
+/// Adds a call of a train with this row: its line of text, the row with its fields, or an object.
+fn push_call_of<F: RowFormat, R: RowSource, W: WriteDevice>(
+    rows: &mut Rows<F>,
+    row: &R,
+    call: &CallColumns,
+    sink: &mut Sink<W>,
+)
+    ensures { Adds W.contents W.write_errors (call_text F.FORMAT (R.fields row.now) (values_of call.now))
+        sink.old sink.new rows.old rows.new }
 {
-    append(before, sink);
-    append(line.as_str(), sink);
+    match F::FORMAT {
+        Format::Text => {
+            rows.begin_row(sink);
+            push_call(rows, call, sink);
+            rows.end_row(sink);
+        }
+        Format::Tsv => {
+            rows.begin_row(sink);
+            row.push_row(rows, sink);
+            push_call(rows, call, sink);
+            rows.end_row(sink);
+        }
+        Format::Json => {
+            rows.begin_call(sink);
+            push_call(rows, call, sink);
+            rows.end_call(sink);
+        }
+    }
 }
 
-/// Appends the line of a call on the way; a change has none.
-fn write_call<W: WriteDevice>(format: Format, before: &str, call: &Call, sink: &mut Sink<W>)
-    ensures { IsAppended W.contents W.write_errors
-        (call_text (λ fields. before.now ++ line_of format fields) call.now)
-        sink.old sink.new }
+/// Adds the call of a location on the way; a change is none.
+fn push_call_at<F: RowFormat, R: RowSource, W: WriteDevice>(
+    rows: &mut Rows<F>,
+    row: &R,
+    call: &Call,
+    sink: &mut Sink<W>,
+)
+    ensures { Adds W.contents W.write_errors (flat_map (call_text F.FORMAT (R.fields row.now)) (calls_at call.now))
+        sink.old sink.new rows.old rows.new }
 {
     match call {
-        Call::At(stop) => write_both(before, &stop_line(format, stop), sink),
+        Call::At(stop) => push_call_of(rows, row, &stop_call(stop), sink),
         Call::Turn(_) => {}
     }
 }
 
-/// Appends the lines of the calls on the way.
-fn write_calls_between<W: WriteDevice>(
-    format: Format,
-    before: &str,
+/// Adds the calls on the way.
+fn push_calls_between<F: RowFormat, R: RowSource, W: WriteDevice>(
+    rows: &mut Rows<F>,
+    row: &R,
     calls: Calls<'_>,
     sink: &mut Sink<W>,
 )
-    ensures { IsAppended W.contents W.write_errors
-        (flat_map (call_text (λ fields. before.now ++ line_of format fields)) calls.entry)
-        sink.old sink.new }
+    ensures { Adds W.contents W.write_errors (flat_map (call_text F.FORMAT (R.fields row.now)) (flat_map calls_at calls.entry))
+        sink.old sink.new rows.old rows.new }
 {
     let mut calls = calls;
     while let Some(call) = calls.next() {
-        write_call(format, before, &call, sink);
+        push_call_at(rows, row, &call, sink);
     }
 }
 
-/// Appends the lines of the body's calls, each with what stands before it.
-fn write_calls<W: WriteDevice>(format: Format, before: &str, body: &Body, sink: &mut Sink<W>)
-    ensures { IsAppended W.contents W.write_errors
-        (calls_text (λ fields. before.now ++ line_of format fields) body.now)
-        sink.old sink.new }
-{
-    write_both(before, &origin_line(format, &body.origin()), sink);
-    write_calls_between(format, before, body.calls(), sink);
-    write_both(before, &terminus_line(format, &body.terminus()), sink);
-}
-
-/// Appends the lines of a train with this row, and those of its calls if they are listed.
-pub(crate) fn write_row<W: WriteDevice>(
-    listing: Listing,
-    row: ArrayString<LONGEST_ROW>,
+/// Adds all calls of a train with this row.
+fn push_calls<F: RowFormat, R: RowSource, W: WriteDevice>(
+    rows: &mut Rows<F>,
+    row: &R,
     body: &Body,
     sink: &mut Sink<W>,
 )
-    requires { array_string_len row + 1 ≤ LONGEST_ROW }
-    ensures { IsAppended W.contents W.write_errors (row_lines listing row.bytes body.now)
-        sink.old sink.new }
+    ensures { Adds W.contents W.write_errors (flat_map (call_text F.FORMAT (R.fields row.now)) (calls_in body.now))
+        sink.old sink.new rows.old rows.new }
 {
-    let mut row = row;
-    if listing.calls {
-        match listing.format {
-            Format::Text => {
-                row.push_str("\n");
-                append(row.as_str(), sink);
-                write_calls(Format::Text, "", body, sink);
-            }
-            Format::Tsv => {
-                row.push_str("\t");
-                write_calls(Format::Tsv, row.as_str(), body, sink);
-            }
+    push_call_of(rows, row, &origin_call(&body.origin()), sink);
+    push_calls_between(rows, row, body.calls(), sink);
+    push_call_of(rows, row, &terminus_call(&body.terminus()), sink);
+}
+
+/// Adds the row of a train and its calls.
+fn push_with_calls<F: RowFormat, R: RowSource, W: WriteDevice>(
+    rows: &mut Rows<F>,
+    row: &R,
+    body: &Body,
+    sink: &mut Sink<W>,
+)
+    ensures { Adds W.contents W.write_errors (with_calls F.FORMAT (R.fields row.now) (calls_in body.now))
+        sink.old sink.new rows.old rows.new }
+{
+    match F::FORMAT {
+        Format::Text => {
+            rows.begin_row(sink);
+            row.push_row(rows, sink);
+            rows.end_row(sink);
+            push_calls(rows, row, body, sink);
         }
-    } else {
-        row.push_str("\n");
-        append(row.as_str(), sink);
+        Format::Tsv => push_calls(rows, row, body, sink),
+        Format::Json => {
+            rows.begin_row(sink);
+            row.push_row(rows, sink);
+            rows.begin_calls(sink);
+            push_calls(rows, row, body, sink);
+            rows.end_calls(sink);
+            rows.end_row(sink);
+        }
     }
+}
+
+/// Adds what a row has in place of calls.
+fn push_no_calls<F: RowFormat, W: WriteDevice>(rows: &mut Rows<F>, sink: &mut Sink<W>)
+    ensures { Adds W.contents W.write_errors (no_call_text F.FORMAT) sink.old sink.new rows.old rows.new }
+{
+    match F::FORMAT {
+        Format::Text => {}
+        Format::Tsv => rows.push_absent(sink, &CALL_NAMES),
+        Format::Json => rows.push_no_calls(sink),
+    }
+}
+
+/// Appends the row of a train, with its calls.
+pub(crate) fn write_with_calls<F: RowFormat, R: RowSource, W: WriteDevice>(
+    row: &R,
+    body: &Body,
+    sink: &mut Sink<W>,
+)
+    ensures { IsAppended W.contents W.write_errors (with_calls F.FORMAT (R.fields row.now) (calls_in body.now)) sink.old sink.new }
+{
+    let mut rows = Rows::<F>::new();
+    push_with_calls(&mut rows, row, body, sink);
+    rows.finish(sink);
+}
+
+/// Appends the row of an association where calls are listed.
+pub(crate) fn write_without_calls<F: RowFormat, R: RowSource, W: WriteDevice>(
+    row: &R,
+    sink: &mut Sink<W>,
+)
+    ensures { IsAppended W.contents W.write_errors (without_calls F.FORMAT (R.fields row.now)) sink.old sink.new }
+{
+    let mut rows = Rows::<F>::new();
+    rows.begin_row(sink);
+    row.push_row(&mut rows, sink);
+    push_no_calls(&mut rows, sink);
+    rows.end_row(sink);
+    rows.finish(sink);
+}
+
+/// Appends the row.
+pub(crate) fn write_row<F: RowFormat, R: RowSource, W: WriteDevice>(row: &R, sink: &mut Sink<W>)
+    ensures { IsAppended W.contents W.write_errors (row_text F.FORMAT (R.fields row.now)) sink.old sink.new }
+{
+    let mut rows = Rows::<F>::new();
+    rows.begin_row(sink);
+    row.push_row(&mut rows, sink);
+    rows.end_row(sink);
+    rows.finish(sink);
 }

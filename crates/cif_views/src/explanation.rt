@@ -1,40 +1,36 @@
 //! Why a train runs on a day or doesn't: a line for each record, with its mark.
-ghost use Rattle.std.specs.Prelude.{◌≡◌, ◌+◌, ◌≤◌, ◌++◌, ◌∷◌, ℕ, List, IfErr, map};
-ghost use Rattle.arrayvec.specs.ArrayString.{array_string_len};
+ghost use Rattle.std.specs.Prelude.{◌≡◌, ◌∷◌, [], ℕ, List, IfErr, codes, map};
+ghost use Rattle.cif_calendar.specs.Terms.{Terms};
 ghost use Rattle.cif_extract.specs.ExtractParts.{extract_parts};
-ghost use Rattle.cif_views.specs.Explanation.{IsExplanation, IsExplanationFault, mark_columns, said_of_association, said_of_train};
-ghost use Rattle.cif_views.specs.{Explanation.terms_fields, Listing.date_field, Steps.Explanation.AreMarkedOn};
 ghost use Rattle.cif_canon.specs.Normalised.{FaultWrites, IfWritten};
-ghost use Rattle.cif_views.specs.Steps.Explanation.{IsRisingBy, placed_of};
-ghost use Rattle.cif_columns.specs.Line.{ArePrintable};
-ghost use Rattle.cif_canon.specs.Fields.{after, row_start, separator, shown};
-ghost use Rattle.cif_canon.specs.declared.{rows.Format.TheVariants.Text, rows.Shape.TheVariants.Trimmed};
+ghost use Rattle.cif_rows.specs.{Adds.Adds, Appended.IsAppended, Row.row_text, Row.text, Steps.fields_text};
+ghost use Rattle.cif_rows.specs.declared.format.Format.TheVariants.{Text};
+ghost use Rattle.cif_views.specs.Explanation.{IsExplanation, IsExplanationFault, explanation_heading, mark_columns, said_of_association};
+ghost use Rattle.cif_views.specs.Explanation.{said_of_train, start_fields};
+ghost use Rattle.cif_views.specs.Steps.Explanation.{AreMarkedOn, IsRisingBy, placed_of};
 
-use crate::heading::{ASSOCIATION_NAMES, write_heading};
-use crate::listing::Listing;
 use crate::marks::{Applying, ExplainedEntry, Mark, mark_at, records_on};
-use arrayvec::ArrayString;
 use cif_calendar::Entry;
+use cif_canon::check_within;
 use cif_canon::rows::{
-    ASSOCIATION_FIELDS, JOURNEY_FIELDS, LONGEST_ROW, TRAIN_FIELDS, push_association, push_field,
-    push_fields, push_left_out, push_train, row_start, started,
+    ASSOCIATION_NAMES, JOURNEY_NAMES, TRAIN_NAMES, push_association, push_train,
 };
-use cif_canon::writing::{answer, append};
-use cif_canon::{Format, Shape, check_within};
+use cif_canon::writing::answer;
 use cif_columns::{Day, Sink, Uid, WriteDevice};
 use cif_extract::{Extract, Fault, Schedule};
 use cif_records::Association;
+use cif_rows::{Format, Json, Padded, Padding, RowFormat, Rows, Shape, Tsv};
 use std::alloc::Global;
 
-/// The fields of a record that applies, behind the date.
-const EXPLAINED: [&str; 7] = [
+/// The names of the fields of a record that applies, up to its days.
+const EXPLAINED_NAMES: [&str; 7] = [
+    "date",
     "mark",
     "kind",
     "stp_indicator",
     "first_date",
     "last_date",
     "days_run",
-    "uid",
 ];
 
 /// Appends why the train runs on the day, or doesn't: a line for each record that applies, with its
@@ -74,36 +70,84 @@ pub fn explain_listing<W: WriteDevice>(
         × IfWritten result (IsExplanation format (extract_parts extract.now) uid.now day text) }
     ensures fault { IfErr result (IsExplanationFault (extract_parts extract.now) day) }
 {
+    match format {
+        Format::Text => list_explained::<Padded, W>(alloc, extract, uid, day, sink),
+        Format::Tsv => list_explained::<Tsv, W>(alloc, extract, uid, day, sink),
+        Format::Json => list_explained::<Json, W>(alloc, extract, uid, day, sink),
+    }
+}
+
+/// Appends why the train runs on the day, or doesn't.
+fn list_explained<F: RowFormat, W: WriteDevice>(
+    alloc: Global,
+    extract: &Extract,
+    uid: &Uid,
+    day: Day,
+    sink: &mut Sink<W>,
+) -> Result<(), Fault>
+    ensures view { (text : List ℕ)
+        × FaultWrites W.contents W.write_errors text sink.old sink.new result
+        × IfWritten result (IsExplanation F.FORMAT (extract_parts extract.now) uid.now day text) }
+    ensures fault { IfErr result (IsExplanationFault (extract_parts extract.now) day) }
+{
     check_within(&extract.header, day)?;
     let associations = records_on(alloc, extract.associations.as_slice(), uid, day)?;
     let trains = records_on(alloc, extract.schedules.as_slice(), uid, day)?;
-    let listing = Listing {
-        format,
-        calls: false,
-    };
-    write_heading(listing, "date", &EXPLAINED, &ASSOCIATION_NAMES, sink);
-    write_explained(format, day, associations.as_slice(), sink);
-    write_explained(format, day, trains.as_slice(), sink);
+    write_names::<F, W>(sink);
+    write_explained::<F, Association, W>(day, associations.as_slice(), sink);
+    write_explained::<F, Schedule, W>(day, trains.as_slice(), sink);
     answer(sink)
 }
 
-/// Appends the lines of the records that apply, with their marks.
-fn write_explained<E: ExplainedEntry, W: WriteDevice>(
-    format: Format,
+/// Appends the names of the fields, if they stand before the rows.
+fn write_names<F: RowFormat, W: WriteDevice>(sink: &mut Sink<W>)
+    ensures { IsAppended W.contents W.write_errors (explanation_heading F.FORMAT) sink.old sink.new }
+{
+    let mut rows = Rows::<F>::new();
+    rows.push_names(sink, &EXPLAINED_NAMES);
+    rows.push_names(sink, &TRAIN_NAMES);
+    rows.push_names(sink, &ASSOCIATION_NAMES);
+    rows.end_names();
+    rows.finish(sink);
+}
+
+/// Appends the rows of the records that apply, with their marks.
+fn write_explained<F: RowFormat, E: ExplainedEntry, W: WriteDevice>(
     day: Day,
     applying: &[Applying<'_, E>],
     sink: &mut Sink<W>,
 )
     requires rising { IsRisingBy E.Key.cmp (map (placed_of E.key E.terms) applying.now) }
-    ensures { AreMarkedOn W.contents W.write_errors (E.line format day)
+    ensures { AreMarkedOn W.contents W.write_errors (λ e. row_text F.FORMAT (E.fields day e))
         (map (placed_of E.key E.terms) applying.now) (map (placed_of E.key E.terms) applying.now)
         sink.old sink.new }
 {
     let mut mark = Mark::Wins;
     for (i, one) in applying.iter().enumerate() {
         mark = mark_at(applying, i, mark);
-        append(one.entry.line(format, day, mark).as_str(), sink);
+        write_one::<F, E, W>(one.entry, day, mark, sink);
     }
+}
+
+/// Appends the row of a record that applies, with this mark.
+fn write_one<F: RowFormat, E: ExplainedEntry, W: WriteDevice>(
+    entry: &E,
+    day: Day,
+    mark: Mark,
+    sink: &mut Sink<W>,
+)
+    ensures { (place : ℕ) → IsAppended W.contents W.write_errors (row_text F.FORMAT (E.fields day (record {
+      place = place;
+      key = E.key entry.now;
+      terms = E.terms entry.now;
+      mark = mark;
+    }))) sink.old sink.new }
+{
+    let mut rows = Rows::<F>::new();
+    rows.begin_row(sink);
+    entry.push_row(&mut rows, day, mark, sink);
+    rows.end_row(sink);
+    rows.finish(sink);
 }
 
 /// The six columns of a mark.
@@ -117,129 +161,170 @@ fn columns_of(mark: Mark) -> [u8; 6]
     }
 }
 
-/// The beginning of a line: in a table the date, then the mark and the kind.
-fn begun(format: Format, day: Day, mark: Mark, kind: &[u8; 2]) -> ArrayString<LONGEST_ROW>
-    requires { ArePrintable kind.now }
-    ensures text { result.bytes ≡ (row_start format (date_field day) ++ shown format (Trimmed, mark_columns mark))
-        ++ (separator format ∷ shown format (Trimmed, kind.now)) }
-    ensures len { array_string_len result ≤ 20 }
+/// Adds what rows begin with: the date, the mark and the kind, and the record's letter, dates and mask.
+fn push_start<F: RowFormat, E: Entry, W: WriteDevice>(
+    rows: &mut Rows<F>,
+    day: Day,
+    mark: Mark,
+    kind: [u8; 2],
+    entry: &E,
+    sink: &mut Sink<W>,
+)
+    ensures { Adds W.contents W.write_errors (fields_text F.FORMAT (start_fields day mark kind (E.terms entry.now)))
+        sink.old sink.new rows.old rows.new }
 {
-    let date = row_start(format, Shape::Date, &day.to_yymmdd());
-    let mut line = started(date.as_str(), format, Shape::Trimmed, &columns_of(mark));
-    push_field(&mut line, format, Shape::Trimmed, kind);
-    line
-}
-
-/// Appends the letter, the dates and the mask of a record.
-fn push_terms<E: Entry>(line: &mut ArrayString<LONGEST_ROW>, format: Format, entry: &E)
-    requires { array_string_len line.old + 32 ≤ LONGEST_ROW }
-    ensures text { line.new.bytes ≡ line.old.bytes ++ after format (terms_fields (E.terms entry.now)) }
-    ensures len { array_string_len line.new ≤ array_string_len line.old + 32 }
-{
-    push_fields(
-        line,
-        format,
+    rows.push_fields(
+        sink,
         &[
-            (Shape::Trimmed, &[entry.letter().write()]),
-            (Shape::Date, &entry.first().to_yymmdd()),
-            (Shape::Date, &entry.last().to_yymmdd()),
-            (Shape::Trimmed, &entry.days().write()),
+            ("date", Padding::Hidden, Shape::Date, &day.to_yymmdd()),
+            ("mark", Padding::Apart, Shape::Trimmed, &columns_of(mark)),
+            ("kind", Padding::Apart, Shape::Trimmed, &kind),
+            (
+                "stp_indicator",
+                Padding::Apart,
+                Shape::Trimmed,
+                &[entry.letter().write()],
+            ),
+            (
+                "first_date",
+                Padding::Apart,
+                Shape::Date,
+                &entry.first().to_yymmdd(),
+            ),
+            (
+                "last_date",
+                Padding::Apart,
+                Shape::Date,
+                &entry.last().to_yymmdd(),
+            ),
+            (
+                "days_run",
+                Padding::Apart,
+                Shape::Trimmed,
+                &entry.days().write(),
+            ),
         ],
     );
 }
 
-/// Appends what an association says.
-fn push_said_of_association(
-    line: &mut ArrayString<LONGEST_ROW>,
-    format: Format,
+/// Adds what an association says.
+fn push_said_of_association<F: RowFormat, W: WriteDevice>(
+    rows: &mut Rows<F>,
     association: &Association,
+    sink: &mut Sink<W>,
 )
-    requires { array_string_len line.old + 35 ≤ LONGEST_ROW }
-    ensures text { line.new.bytes ≡ line.old.bytes
-        ++ after format (said_of_association format association.now.key association.now.body) }
-    ensures len { array_string_len line.new ≤ array_string_len line.old + 35 }
+    ensures { Adds W.contents W.write_errors
+        (fields_text F.FORMAT (said_of_association association.now.key association.now.body))
+        sink.old sink.new rows.old rows.new }
 {
+    let key = &association.key;
     match &association.body {
-        Some(body) => push_association(line, format, &association.key, body),
-        None => {
-            let key = &association.key;
-            push_fields(
-                line,
-                format,
-                &[
-                    (Shape::Whole, &key.base.write()),
-                    (Shape::Whole, &key.associated.write()),
-                ],
-            );
-            push_left_out(line, format, 2);
-            push_fields(
-                line,
-                format,
-                &[
-                    (Shape::Trimmed, &key.location.write()),
-                    (Shape::Trimmed, &key.base_suffix.write()),
-                    (Shape::Trimmed, &key.associated_suffix.write()),
-                ],
-            );
-            push_left_out(line, format, 2);
-        }
+        Some(body) => push_association(rows, key, body, sink),
+        None => rows.push_fields(
+            sink,
+            &[
+                ("base_uid", Padding::Apart, Shape::Whole, &key.base.write()),
+                (
+                    "associated_uid",
+                    Padding::Apart,
+                    Shape::Whole,
+                    &key.associated.write(),
+                ),
+                ("association_category", Padding::Hidden, Shape::Trimmed, b""),
+                ("date_indicator", Padding::Hidden, Shape::Trimmed, b""),
+                (
+                    "association_location",
+                    Padding::Apart,
+                    Shape::Trimmed,
+                    &key.location.write(),
+                ),
+                (
+                    "base_suffix",
+                    Padding::Apart,
+                    Shape::Trimmed,
+                    &key.base_suffix.write(),
+                ),
+                (
+                    "associated_suffix",
+                    Padding::Apart,
+                    Shape::Trimmed,
+                    &key.associated_suffix.write(),
+                ),
+                ("diagram_type", Padding::Hidden, Shape::Trimmed, b""),
+                ("association_type", Padding::Hidden, Shape::Trimmed, b""),
+            ],
+        ),
     }
 }
 
-/// Appends what a schedule says.
-fn push_said_of_train(line: &mut ArrayString<LONGEST_ROW>, format: Format, schedule: &Schedule)
-    requires { array_string_len line.old + 52 ≤ LONGEST_ROW }
-    ensures text { line.new.bytes ≡ line.old.bytes
-        ++ after format (said_of_train format schedule.now.uid schedule.now.body) }
-    ensures len { array_string_len line.new ≤ array_string_len line.old + 52 }
+/// Adds what a schedule says.
+fn push_said_of_train<F: RowFormat, W: WriteDevice>(
+    rows: &mut Rows<F>,
+    schedule: &Schedule,
+    sink: &mut Sink<W>,
+)
+    ensures { Adds W.contents W.write_errors (fields_text F.FORMAT (said_of_train schedule.now.uid schedule.now.body))
+        sink.old sink.new rows.old rows.new }
 {
     match &schedule.body {
-        Some(body) => push_train(line, format, &schedule.uid, body),
+        Some(body) => push_train(rows, &schedule.uid, body, sink),
         None => {
-            push_field(line, format, Shape::Whole, &schedule.uid.write());
-            push_left_out(line, format, JOURNEY_FIELDS);
+            rows.push(
+                sink,
+                "uid",
+                Padding::Apart,
+                Shape::Whole,
+                &schedule.uid.write(),
+            );
+            rows.push_absent(sink, &JOURNEY_NAMES);
         }
     }
 }
 
 impl ExplainedEntry for Association {
-    ghost use Rattle.cif_views.specs.Explanation.{IsAssociationOf, explained_association_line};
+    ghost use Rattle.cif_views.specs.Explanation.{IsAssociationOf, explained_association_row};
 
     ghost is_of = { IsAssociationOf };
 
-    ghost line = { explained_association_line };
+    ghost fields = { explained_association_row };
 
     fn is_of(&self, uid: &Uid) -> bool {
         self.key.base == *uid || self.key.associated == *uid
     }
 
-    fn line(&self, format: Format, day: Day, mark: Mark) -> ArrayString<LONGEST_ROW> {
-        let mut line = begun(format, day, mark, b"AA");
-        push_terms(&mut line, format, self);
-        push_left_out(&mut line, format, TRAIN_FIELDS);
-        push_said_of_association(&mut line, format, self);
-        line.push_str("\n");
-        line
+    fn push_row<F: RowFormat, W: WriteDevice>(
+        &self,
+        rows: &mut Rows<F>,
+        day: Day,
+        mark: Mark,
+        sink: &mut Sink<W>,
+    ) {
+        push_start(rows, day, mark, *b"AA", self, sink);
+        rows.push_absent(sink, &TRAIN_NAMES);
+        push_said_of_association(rows, self, sink);
     }
 }
 
 impl ExplainedEntry for Schedule {
-    ghost use Rattle.cif_views.specs.Explanation.{IsTrain, explained_train_line};
+    ghost use Rattle.cif_views.specs.Explanation.{IsTrain, explained_train_row};
 
     ghost is_of = { IsTrain };
 
-    ghost line = { explained_train_line };
+    ghost fields = { explained_train_row };
 
     fn is_of(&self, uid: &Uid) -> bool {
         self.uid == *uid
     }
 
-    fn line(&self, format: Format, day: Day, mark: Mark) -> ArrayString<LONGEST_ROW> {
-        let mut line = begun(format, day, mark, b"BS");
-        push_terms(&mut line, format, self);
-        push_said_of_train(&mut line, format, self);
-        push_left_out(&mut line, format, ASSOCIATION_FIELDS);
-        line.push_str("\n");
-        line
+    fn push_row<F: RowFormat, W: WriteDevice>(
+        &self,
+        rows: &mut Rows<F>,
+        day: Day,
+        mark: Mark,
+        sink: &mut Sink<W>,
+    ) {
+        push_start(rows, day, mark, *b"BS", self, sink);
+        push_said_of_train(rows, self, sink);
+        rows.push_absent(sink, &ASSOCIATION_NAMES);
     }
 }

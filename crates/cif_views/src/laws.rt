@@ -33,7 +33,7 @@ pub fn marks_say_what_runs<E: ExplainedEntry>()
         ↔ (SomeApplies (of_key entries key) day × IsClear (of_key entries key) day) }
 {}
 
-/// Each row of a table has a field for each name in its first line.
+/// The fields of each row have the names in a table's first line, in order.
 pub fn rows_have_all_fields()
     ensures calls { CallsHaveAll }
     ensures day { DayRowsHaveAll }

@@ -10,7 +10,6 @@ mod columns;
 mod difference_table;
 mod explanation;
 mod find_clashes;
-mod heading;
 pub mod laws;
 mod line_fields;
 mod listing;

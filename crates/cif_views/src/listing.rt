@@ -1,33 +1,31 @@
-//! What runs on a day, and when a train runs, as text or as a table, with or without calls.
-ghost use Rattle.std.specs.Prelude.{◌≡◌, ◌+◌, ◌++◌, ◌≤◌, ℕ, List, IfErr};
-ghost use Rattle.arrayvec.specs.ArrayString.{array_string_len};
-ghost use Rattle.cif_canon.specs.{Fields.after, Fields.row_start, Normalised.FaultWrites, Normalised.IfWritten, Views.IsDayFault};
-ghost use Rattle.cif_canon.specs.{Views.IsTrainFault};
+//! What runs on a day, and when a train runs, as text, as a table or as JSON, with or without calls.
+ghost use Rattle.std.specs.Prelude.{◌≡◌, ◌∷◌, [], ℕ, List, IfErr, codes};
+ghost use Rattle.cif_canon.specs.{Normalised.FaultWrites, Normalised.IfWritten, Views.IsDayFault, Views.IsTrainFault};
 ghost use Rattle.cif_extract.specs.ExtractParts.{extract_parts};
-ghost use Rattle.cif_views.specs.Listing.{IsDayListing, IsTrainListing, association_line, no_call};
-ghost use Rattle.cif_views.specs.Steps.Rows.{first_field};
+ghost use Rattle.cif_rows.specs.{Adds.Adds, Appended.IsAppended, Row.heading_text, Steps.fields_text, Steps.names_text};
+ghost use Rattle.cif_views.specs.Listing.{IsDayListing, IsTrainListing, call_names_if, day_names, train_names};
+ghost use Rattle.cif_views.specs.Steps.Rows.{first_field, listing_in};
 
-use crate::calls::write_row;
-use crate::heading::{ASSOCIATION_NAMES, write_heading};
-use arrayvec::ArrayString;
+use crate::calls::{CALL_NAMES, RowSource, write_row, write_with_calls, write_without_calls};
 use cif_canon::rows::{
-    LONGEST_ROW, ROW_START, association_row, push_left_out, row_start, schedule_row, train_row,
+    ASSOCIATION_NAMES, JOURNEY_NAMES, push_association_row, push_schedule_row, push_train_row,
 };
-use cif_canon::writing::append;
-use cif_canon::{DayLines, Format, Shape, TrainLines, write_day, write_train};
+use cif_canon::{DayLines, TrainLines, write_day, write_train};
 use cif_columns::{Day, Sink, Uid, WriteDevice};
 use cif_extract::{Body, Extract, Fault};
 use cif_records::{AssocBody, AssocKey};
+use cif_rows::{Format, Json, Padded, Padding, RowFormat, Rows, Shape, Tsv};
 use cif_weeks::{Form, Run};
 use std::alloc::Global;
+use std::marker::PhantomData;
 
 /// How what runs is listed.
 #[derive(Clone, Copy)]
 pub struct Listing {
-    /// How fields are laid out.
+    /// How rows are written.
     pub format: Format,
-    /// Whether the train's calls are listed too: below its line, or in a table each with the fields
-    /// of the train before it.
+    /// Whether the train's calls are listed too: below its line, in a table each with the fields of the
+    /// train before it, or in JSON as a list in its object.
     pub calls: bool,
 }
 
@@ -45,9 +43,31 @@ pub fn day_listing<W: WriteDevice>(
         × IfWritten result (IsDayListing listing (extract_parts extract.now) day text) }
     ensures fault { IfErr result (IsDayFault (extract_parts extract.now) day) }
 {
-    let rows = ListedRows {
-        listing,
+    let calls = listing.calls;
+    match listing.format {
+        Format::Text => list_day::<Padded, W>(alloc, extract, day, sink, calls),
+        Format::Tsv => list_day::<Tsv, W>(alloc, extract, day, sink, calls),
+        Format::Json => list_day::<Json, W>(alloc, extract, day, sink, calls),
+    }
+}
+
+/// Appends what runs on the day.
+fn list_day<F: RowFormat, W: WriteDevice>(
+    alloc: Global,
+    extract: &Extract,
+    day: Day,
+    sink: &mut Sink<W>,
+    calls: bool,
+) -> Result<(), Fault>
+    ensures view { (text : List ℕ)
+        × FaultWrites W.contents W.write_errors text sink.old sink.new result
+        × IfWritten result (IsDayListing (listing_in F.FORMAT calls) (extract_parts extract.now) day text) }
+    ensures fault { IfErr result (IsDayFault (extract_parts extract.now) day) }
+{
+    let rows = ListedRows::<F> {
+        calls,
         first: First::Date(day),
+        format: PhantomData,
     };
     write_day(alloc, extract, day, sink, &rows)
 }
@@ -67,9 +87,32 @@ pub fn train_listing<W: WriteDevice>(
         × IfWritten result (IsTrainListing listing form (extract_parts extract.now) uid.now text) }
     ensures fault { IfErr result (IsTrainFault (extract_parts extract.now)) }
 {
-    let rows = ListedRows {
-        listing,
+    let calls = listing.calls;
+    match listing.format {
+        Format::Text => list_train::<Padded, W>(alloc, extract, uid, sink, form, calls),
+        Format::Tsv => list_train::<Tsv, W>(alloc, extract, uid, sink, form, calls),
+        Format::Json => list_train::<Json, W>(alloc, extract, uid, sink, form, calls),
+    }
+}
+
+/// Appends when the train runs.
+fn list_train<F: RowFormat, W: WriteDevice>(
+    alloc: Global,
+    extract: &Extract,
+    uid: &Uid,
+    sink: &mut Sink<W>,
+    form: Form,
+    calls: bool,
+) -> Result<(), Fault>
+    ensures view { (text : List ℕ)
+        × FaultWrites W.contents W.write_errors text sink.old sink.new result
+        × IfWritten result (IsTrainListing (listing_in F.FORMAT calls) form (extract_parts extract.now) uid.now text) }
+    ensures fault { IfErr result (IsTrainFault (extract_parts extract.now)) }
+{
+    let rows = ListedRows::<F> {
+        calls,
         first: First::Train(*uid),
+        format: PhantomData,
     };
     write_train(alloc, extract, uid, sink, form, &rows)
 }
@@ -83,42 +126,106 @@ enum First {
     Train(Uid),
 }
 
-/// A listing, and what the rows of its tables begin with.
-#[derive(Clone, Copy)]
-struct ListedRows {
-    listing: Listing,
-    first: First,
-}
-
-impl ListedRows {
-    /// What each line begins with.
-    fn row_start(&self) -> ArrayString<ROW_START>
-        ensures { result.bytes ≡ row_start self.now.listing.format (first_field self.now.first) }
-    {
-        match self.first {
-            First::Date(day) => row_start(self.listing.format, Shape::Date, &day.to_yymmdd()),
-            First::Train(uid) => row_start(self.listing.format, Shape::Whole, &uid.write()),
-        }
+/// Adds what the rows of a table begin with.
+fn push_first<F: RowFormat, W: WriteDevice>(rows: &mut Rows<F>, first: First, sink: &mut Sink<W>)
+    ensures { Adds W.contents W.write_errors (fields_text F.FORMAT (first_field first ∷ [])) sink.old sink.new rows.old rows.new }
+{
+    match first {
+        First::Date(day) => rows.push_fields(
+            sink,
+            &[("date", Padding::Hidden, Shape::Date, &day.to_yymmdd())],
+        ),
+        First::Train(uid) => rows.push_fields(
+            sink,
+            &[("uid", Padding::Hidden, Shape::Whole, &uid.write())],
+        ),
     }
 }
 
-impl DayLines for ListedRows {
-    ghost use Rattle.cif_views.specs.{Listing.association_line, Listing.day_heading, Listing.train_text, Steps.Rows.first_field};
+/// The row of an association that holds.
+#[derive(Drop)]
+struct AssociationRow<'a> {
+    first: First,
+    key: &'a AssocKey,
+    body: &'a AssocBody,
+}
 
-    ghost heading = { λ rows. day_heading rows.listing };
+impl<'a> RowSource for AssociationRow<'a> {
+    ghost use Rattle.std.specs.Prelude.{◌∷◌};
+    ghost use Rattle.cif_canon.specs.Rows.{association_row};
+    ghost use Rattle.cif_views.specs.Steps.Rows.{first_field};
 
-    ghost association = { λ rows. association_line rows.listing (first_field rows.first) };
+    ghost fields = { λ r. first_field r.first ∷ association_row (r.key.now, r.body.now) };
 
-    ghost train = { λ rows. train_text rows.listing (first_field rows.first) };
+    fn push_row<F: RowFormat, W: WriteDevice>(&self, rows: &mut Rows<F>, sink: &mut Sink<W>) {
+        push_first(rows, self.first, sink);
+        push_association_row(rows, self.key, self.body, sink);
+    }
+}
+
+/// The row of a train that runs.
+#[derive(Drop)]
+struct TrainRow<'a> {
+    first: First,
+    uid: &'a Uid,
+    body: &'a Body,
+}
+
+impl<'a> RowSource for TrainRow<'a> {
+    ghost use Rattle.std.specs.Prelude.{◌∷◌};
+    ghost use Rattle.cif_canon.specs.Rows.{train_row};
+    ghost use Rattle.cif_views.specs.Steps.Rows.{first_field};
+
+    ghost fields = { λ r. first_field r.first ∷ train_row (r.uid.now, r.body.now) };
+
+    fn push_row<F: RowFormat, W: WriteDevice>(&self, rows: &mut Rows<F>, sink: &mut Sink<W>) {
+        push_first(rows, self.first, sink);
+        push_train_row(rows, self.uid, self.body, sink);
+    }
+}
+
+/// The row of a schedule with the dates and the mask of the run.
+#[derive(Drop)]
+struct ScheduleRow<'a> {
+    first: First,
+    run: &'a Run,
+    body: &'a Body,
+}
+
+impl<'a> RowSource for ScheduleRow<'a> {
+    ghost use Rattle.std.specs.Prelude.{◌∷◌};
+    ghost use Rattle.cif_canon.specs.Rows.{schedule_row};
+    ghost use Rattle.cif_views.specs.Steps.Rows.{first_field};
+    ghost use Rattle.cif_weeks.specs.Runs.{record_of};
+
+    ghost fields = { λ r. first_field r.first ∷ schedule_row (record_of r.run.now r.body.now) };
+
+    fn push_row<F: RowFormat, W: WriteDevice>(&self, rows: &mut Rows<F>, sink: &mut Sink<W>) {
+        push_first(rows, self.first, sink);
+        push_schedule_row(rows, self.run, self.body, sink);
+    }
+}
+
+/// A listing in the format `F`, and what the rows of its tables begin with.
+#[derive(Drop)]
+struct ListedRows<F> {
+    calls: bool,
+    first: First,
+    format: PhantomData<F>,
+}
+
+impl<F: RowFormat> DayLines for ListedRows<F> {
+    ghost use Rattle.cif_views.specs.Listing.{association_text, day_heading, train_text};
+    ghost use Rattle.cif_views.specs.Steps.Rows.{first_field, listing_in};
+
+    ghost heading = { λ rows. day_heading (listing_in F.FORMAT rows.calls) };
+
+    ghost association = { λ rows. association_text (listing_in F.FORMAT rows.calls) (first_field rows.first) };
+
+    ghost train = { λ rows. train_text (listing_in F.FORMAT rows.calls) (first_field rows.first) };
 
     fn write_heading<W: WriteDevice>(&self, sink: &mut Sink<W>) {
-        write_heading(
-            self.listing,
-            "date",
-            &["kind", "uid"],
-            &ASSOCIATION_NAMES,
-            sink,
-        );
+        write_day_names::<F, W>(self.calls, sink);
     }
 
     fn write_association<W: WriteDevice>(
@@ -127,51 +234,93 @@ impl DayLines for ListedRows {
         body: &AssocBody,
         sink: &mut Sink<W>,
     ) {
-        append(association_line(self, key, body).as_str(), sink);
+        let row = AssociationRow {
+            first: self.first,
+            key,
+            body,
+        };
+        if self.calls {
+            write_without_calls::<F, AssociationRow<'_>, W>(&row, sink);
+        } else {
+            write_row::<F, AssociationRow<'_>, W>(&row, sink);
+        }
     }
 
     fn write_train<W: WriteDevice>(&self, uid: &Uid, body: &Body, sink: &mut Sink<W>) {
-        let row = train_row(self.row_start().as_str(), self.listing.format, uid, body);
-        write_row(self.listing, row, body, sink);
+        let row = TrainRow {
+            first: self.first,
+            uid,
+            body,
+        };
+        if self.calls {
+            write_with_calls::<F, TrainRow<'_>, W>(&row, body, sink);
+        } else {
+            write_row::<F, TrainRow<'_>, W>(&row, sink);
+        }
     }
 }
 
-impl TrainLines for ListedRows {
-    ghost use Rattle.cif_views.specs.{Listing.schedule_text, Listing.train_heading, Steps.Rows.first_field};
+impl<F: RowFormat> TrainLines for ListedRows<F> {
+    ghost use Rattle.cif_views.specs.Listing.{schedule_text, train_heading};
+    ghost use Rattle.cif_views.specs.Steps.Rows.{first_field, listing_in};
 
-    ghost heading = { λ rows. train_heading rows.listing };
+    ghost heading = { λ rows. train_heading (listing_in F.FORMAT rows.calls) };
 
-    ghost schedule = { λ rows. schedule_text rows.listing (first_field rows.first) };
+    ghost schedule = { λ rows. schedule_text (listing_in F.FORMAT rows.calls) (first_field rows.first) };
 
     fn write_heading<W: WriteDevice>(&self, sink: &mut Sink<W>) {
-        let dates = ["first_date", "last_date", "days_run"];
-        write_heading(self.listing, "uid", &dates, &[], sink);
+        write_train_names::<F, W>(self.calls, sink);
     }
 
     fn write_schedule<W: WriteDevice>(&self, run: &Run, body: &Body, sink: &mut Sink<W>) {
-        let row = schedule_row(self.row_start().as_str(), self.listing.format, run, body);
-        write_row(self.listing, row, body, sink);
+        let row = ScheduleRow {
+            first: self.first,
+            run,
+            body,
+        };
+        if self.calls {
+            write_with_calls::<F, ScheduleRow<'_>, W>(&row, body, sink);
+        } else {
+            write_row::<F, ScheduleRow<'_>, W>(&row, sink);
+        }
     }
 }
 
-/// The line of an association that holds.
-#[tactic(auto, unfolding(crate::specs::Listing::association_line))]
-fn association_line(rows: &ListedRows, key: &AssocKey, body: &AssocBody) -> ArrayString<LONGEST_ROW>
-    ensures { result.bytes ≡ association_line rows.now.listing (first_field rows.now.first) (key.now, body.now) }
+/// Appends the names of the fields of a day, if they stand before the rows.
+fn write_day_names<F: RowFormat, W: WriteDevice>(calls: bool, sink: &mut Sink<W>)
+    ensures { IsAppended W.contents W.write_errors (heading_text F.FORMAT (day_names (listing_in F.FORMAT calls))) sink.old sink.new }
 {
-    let mut line = association_row(rows.row_start().as_str(), rows.listing.format, key, body);
-    push_no_call(&mut line, rows.listing);
-    line.push_str("\n");
-    line
+    let mut rows = Rows::<F>::new();
+    rows.push_names(sink, &["date", "kind", "uid"]);
+    rows.push_names(sink, &JOURNEY_NAMES);
+    rows.push_names(sink, &ASSOCIATION_NAMES);
+    push_call_names(&mut rows, calls, sink);
+    rows.end_names();
+    rows.finish(sink);
 }
 
-/// Appends the fields of a call, empty, if the line is a row of a table of calls.
-fn push_no_call(line: &mut ArrayString<LONGEST_ROW>, listing: Listing)
-    requires { array_string_len line.old + 12 ≤ LONGEST_ROW }
-    ensures text { line.new.bytes ≡ line.old.bytes ++ after listing.format (no_call listing) }
-    ensures len { array_string_len line.new ≤ array_string_len line.old + 12 }
+/// Appends the names of the fields of a train, if they stand before the rows.
+fn write_train_names<F: RowFormat, W: WriteDevice>(calls: bool, sink: &mut Sink<W>)
+    ensures { IsAppended W.contents W.write_errors (heading_text F.FORMAT (train_names (listing_in F.FORMAT calls))) sink.old sink.new }
 {
-    if listing.calls {
-        push_left_out(line, listing.format, 12);
+    let mut rows = Rows::<F>::new();
+    rows.push_names(sink, &["uid", "first_date", "last_date", "days_run"]);
+    rows.push_names(sink, &JOURNEY_NAMES);
+    push_call_names(&mut rows, calls, sink);
+    rows.end_names();
+    rows.finish(sink);
+}
+
+/// Adds the names of the fields of a call, if calls are listed.
+fn push_call_names<F: RowFormat, W: WriteDevice>(
+    rows: &mut Rows<F>,
+    calls: bool,
+    sink: &mut Sink<W>,
+)
+    ensures { Adds W.contents W.write_errors (names_text F.FORMAT (call_names_if (listing_in F.FORMAT calls)))
+        sink.old sink.new rows.old rows.new }
+{
+    if calls {
+        rows.push_names(sink, &CALL_NAMES);
     }
 }

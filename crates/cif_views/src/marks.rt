@@ -3,11 +3,9 @@ ghost use Rattle.std.specs.Prelude.{◌≡◌, ◌↔◌, ◌+◌, ◌<◌, ℕ,
 ghost use Rattle.cif_calendar.specs.{Applies.Applies, Keys.keyed};
 ghost use Rattle.cif_views.specs.Steps.Explanation.{ArePlacedInOrder, IsFirstOfKey, IsMarkAt, IsRisingBy, placed_cmp, placed_of};
 
-use arrayvec::ArrayString;
 use cif_calendar::{Dates, Entry, precedence, same_body};
-use cif_canon::Format;
-use cif_canon::rows::LONGEST_ROW;
-use cif_columns::{Day, Uid};
+use cif_columns::{Day, Sink, Uid, WriteDevice};
+use cif_rows::{RowFormat, Rows};
 use std::alloc::{AllocError, Global};
 use std::cmp::Ordering;
 
@@ -24,28 +22,40 @@ pub enum Mark {
 
 /// An entry that can be explained.
 pub trait ExplainedEntry: Entry {
-    ghost use Rattle.std.specs.Prelude.{ℕ, List};
+    ghost use Rattle.std.specs.Prelude.{◌<◌, ℕ, List, length};
+    ghost use Rattle.cif_rows.specs.{Adds.Adds, Row.Field, Steps.fields_text, declared.format.Format.Format};
     ghost use Rattle.cif_views.specs.Explanation.{Explained};
-    ghost use Rattle.cif_canon.specs.declared.rows.Format.{Format};
 
     // A record with this key is of this train.
     ghost is_of: { Self.Key → List ℕ → Type 0 };
 
-    // The line of a record on a day, with its mark.
-    ghost line: { Format → ℕ → Explained Self.Key Self.Body → List ℕ };
+    // The row of a record on a day, with its mark.
+    ghost fields: { ℕ → Explained Self.Key Self.Body → List Field };
 
     /// Whether it is of this train.
     fn is_of(&self, uid: &Uid) -> bool
         ensures { IsTrue result ↔ is_of (Self.key self.now) uid.now };
 
-    /// Its line on the day, with a mark.
-    fn line(&self, format: Format, day: Day, mark: Mark) -> ArrayString<LONGEST_ROW>
-        ensures { (place : ℕ) → result.bytes ≡ line format day (record {
+    /// Adds the fields of its row on the day, with a mark.
+    fn push_row<F: RowFormat, W: WriteDevice>(
+        &self,
+        rows: &mut Rows<F>,
+        day: Day,
+        mark: Mark,
+        sink: &mut Sink<W>,
+    )
+        ensures adds { (place : ℕ) → Adds W.contents W.write_errors (fields_text F.FORMAT (fields day (record {
           place = place;
           key = Self.key self.now;
           terms = Self.terms self.now;
           mark = mark;
-        }) };
+        }))) sink.old sink.new rows.old rows.new }
+        ensures some { (place : ℕ) (format : Format) → 0 < length (fields_text format (fields day (record {
+          place = place;
+          key = Self.key self.now;
+          terms = Self.terms self.now;
+          mark = mark;
+        }))) };
 }
 
 /// A record of the train that applies on the day.

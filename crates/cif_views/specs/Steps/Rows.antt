@@ -1,32 +1,43 @@
--- The lines of a train, by the text of its row, and the first lines of tables by that of some names. No public clause cites them.
-use Rattle.std.specs.Prelude.{List, ℕ, ◌∷◌, ◌++◌, codes, if◌then◌else◌, map}
-use Rattle.std.specs.Borrow.{Bor}
-use Rattle.cif_extract.specs.Body.{BodyLines}
-use Rattle.cif_canon.specs.Fields.{Field, line_of}
-use Rattle.cif_canon.specs.declared.{rows.Format.Format, rows.Format.TheVariants.Text, rows.Format.TheVariants.Tsv}
-use Rattle.cif_views.specs.{Calls.calls_text, declared.listing.First.First, declared.listing.First.TheVariants.Date}
-use Rattle.cif_views.specs.{declared.listing.First.TheVariants.Train, declared.listing.Listing.Listing}
-use Rattle.cif_views.specs.Listing.{call_names_if, date_field, if_table, journey_names, names_line, uid_field}
+-- The rows of a train, call by call. No public clause cites them.
+use Rattle.std.specs.Prelude.{List, ℕ, ◌∷◌, [], ◌++◌, codes, map, Bool}
+use Rattle.cif_rows.specs.Row.{Field, Value, absent, object_text, row_text, text}
+use Rattle.cif_rows.specs.Steps.{fields_text}
+use Rattle.cif_rows.specs.declared.format.Format.{Format}
+use Rattle.cif_rows.specs.declared.format.Format.TheVariants.{Json, Text, Tsv}
+use Rattle.cif_views.specs.Calls.{listed_fields, call_names, nested_fields}
+use Rattle.cif_views.specs.Listing.{date_field, uid_field}
+use Rattle.cif_views.specs.declared.calls.CallColumns.{CallColumns}
+use Rattle.cif_views.specs.declared.listing.{First.First, First.TheVariants.Date, First.TheVariants.Train, Listing.Listing}
 
--- the lines of a train, whose own fields are the row, with those of its calls
-abbrev pub row_and_calls : Format → List ℕ → BodyLines → List ℕ
-row_and_calls Text row b = (row ++ codes "\n") ++ calls_text (line_of Text) b
-row_and_calls Tsv row b = calls_text (λ call. (row ++ codes "\t") ++ line_of Tsv call) b
+-- a call, as the code has it
+abbrev pub values_of : CallColumns → List Value
+values_of c =
+    text c.record ∷ text c.location ∷ text c.suffix ∷ text c.arrival ∷ text c.departure ∷ text c.pass ∷ text c.public_arrival
+    ∷ text c.public_departure ∷ text c.platform ∷ text c.path ∷ text c.line ∷ text c.activities ∷ []
 
--- the lines of a train, by the text of its own fields
-abbrev pub row_lines : Listing → List ℕ → BodyLines → List ℕ
-row_lines listing row b = if listing.calls then row_and_calls listing.format row b else (row ++ codes "\n")
+-- the fields of a call in each format
+abbrev pub fields_of_call : Format → List Value → List Field
+fields_of_call Text call = listed_fields call
+fields_of_call Tsv call = listed_fields call
+fields_of_call Json call = nested_fields call
 
--- names, as the code has them
-abbrev pub texts : List (Bor (List ℕ)) → List (List ℕ)
-texts names = map (λ name. name.now) names
+-- what is written of a call of a train with this row
+abbrev pub call_text : Format → List Field → List Value → List ℕ
+call_text Text row call = row_text Text (listed_fields call)
+call_text Tsv row call = row_text Tsv (row ++ listed_fields call)
+call_text Json row call = object_text (nested_fields call) ++ codes ","
 
--- The first line of a table has these names, those of a journey, the others, and those of a call if calls are listed.
-abbrev pub heading_text : Listing → List ℕ → List (List ℕ) → List (List ℕ) → List ℕ
-heading_text listing first next others =
-    if_table listing.format (names_line (first ∷ (next ++ (journey_names ++ (others ++ call_names_if listing)))))
+-- what is written where a call is missing
+abbrev pub no_call_text : Format → List ℕ
+no_call_text Text = []
+no_call_text Tsv = fields_text Tsv (map absent call_names)
+no_call_text Json = codes "\"calls\":[],"
 
 -- what the rows of a table begin with
 abbrev pub first_field : First → Field
 first_field (Date d) = date_field d
 first_field (Train uid) = uid_field uid
+
+-- a listing, by its parts
+abbrev pub listing_in : Format → Bool → Listing
+listing_in format calls = record { format = format; calls = calls }

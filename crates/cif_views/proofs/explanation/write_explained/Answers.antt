@@ -1,7 +1,8 @@
 -- One record after another gets its mark (`one_marked`), and its line goes behind the text (`behind`).
 use Rattle.cif_views.proofs.Names.{All-nil, IsMarkAt, IsMarkOf, [], ap, arith, get_or-map, map, marked_as, placed_of, refl, subst, sym}
 use Rattle.cif_views.proofs.{Explaining.one_marked, Names.◌++◌, Names.◌∙◌, Names.◌∷◌}
-use Rattle.cif_canon.proofs.AppendedTexts.{behind, nothing, text-is}
+use Rattle.cif_canon.proofs.AppendedTexts.{behind, nothing}
+use Rattle.cif_views.proofs.RowNames.{row_text}
 use Rattle.cif_views.proofs.explanation.write_explained.Goals as goal
 
 pub loop-i-init : goal.loop-i-init
@@ -22,8 +23,8 @@ loop-i-preserved g c =
             (subst (λ p. IsMarkOf (map of c.args.applying.now) p mark)
             (get_or-map of c.args.applying.now c.loop-i.i one (of one) c.loop-i-test.true ∙ ap of (sym c.index-applying-i.is))
             (marks (of one))) marked,
-        behind _ _ (g.E.ExplainedEntry.line c.args.format c.args.day) done e _ _ _ appended
-            (text-is _ _ _ _ _ _ (c.as_str.ensures.value ∙ c.line.ensures one.place) c.append.ensures),
+        behind _ _ (λ x. row_text g.F.RowFormat.FORMAT (g.E.ExplainedEntry.fields c.args.day x)) done e _ _ _ appended
+            (c.write_one.ensures one.place),
       );
       last = λ j is. subst (λ n. IsMarkAt (map of c.args.applying.now) n mark) (omega (arith, is)) marks;
     }
