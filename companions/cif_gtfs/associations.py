@@ -9,7 +9,7 @@ from collections import Counter
 from enum import Enum
 from typing import Dict, Iterable, List, Mapping, NamedTuple, Optional, Sequence, Tuple
 
-from cif_shared.dates import Dates, Window, count_of, moved
+from cif_shared.dates import Dated, Dates, Window, count_of, moved
 from cif_shared.tables import AssociationRow
 
 from .calls import DAY, HOUR, Spot, Variant
@@ -162,7 +162,9 @@ def obstacle(association: Association, base: Variant, associated: Variant) -> Op
     return Reason.TOO_LATE if wait > LONGEST_WAIT else None
 
 
-Variants = Mapping[str, Sequence[Variant]]
+# The public trains of each UID on their dates.
+Variants = Mapping[str, Dated[Variant]]
+NONE: Dated[Variant] = Dated(())
 
 
 def decide(association: Association, variants: Variants, left_out: LeftOut) -> None:
@@ -175,12 +177,11 @@ def decide(association: Association, variants: Variants, left_out: LeftOut) -> N
     if terms.indicator not in DAYS_LATER:
         left_out[Reason.INDICATOR] += count_of(possible)
         return
-    for base in variants.get(terms.base, ()):
-        of_base = possible & base.dates
-        for associated in variants.get(terms.associated, ()) if of_base else ():
-            both = of_base & moved(associated.dates, -association.days_later)
-            if not both:
-                continue
+    later = association.days_later
+    of_associated = variants.get(terms.associated, NONE)
+    for of_base, base in variants.get(terms.base, NONE).on(possible):
+        for own_dates, associated in of_associated.on(moved(of_base, later)):
+            both = moved(own_dates, -later)
             reason = obstacle(association, base, associated)
             if reason is None:
                 association.shown |= both

@@ -9,7 +9,7 @@ from bisect import bisect
 from functools import lru_cache
 from typing import Dict, Iterable, List, NamedTuple, Optional, Sequence, Set
 
-from cif_shared.dates import Dates
+from cif_shared.dates import Dated, Dates
 
 from .trains import About, Record
 
@@ -86,6 +86,7 @@ def leaving(row: bytes) -> bytes:
     return b"\t".join((location, platform, departure, departure, NEVER, pick_up))
 
 
+@lru_cache(maxsize=None)
 def met(arriving_row: bytes, leaving_row: bytes) -> bytes:
     """The call of a train that arrives as in one row, and leaves from there as in another."""
     location, platform, arrival, _, set_down, _ = arriving_row.split(b"\t")
@@ -150,7 +151,8 @@ class Variant:
     stops where its associations may be, `hidden` ones of which aren't public."""
 
     __slots__ = tuple(
-        "about dates records first_public last_public numbers rows place hidden first last ends".split()
+        "about dates records dated_records first_public last_public numbers rows place hidden public"
+        " first last ends".split()
     )
 
     def __init__(
@@ -159,19 +161,22 @@ class Variant:
         self.about = about
         self.dates: Dates = 0
         self.records: List[RunsAs] = []
+        self.dated_records: Optional[Dated[Record]] = None
         self.first_public = numbers[0]
         self.last_public = numbers[-1]
         self.numbers = list(numbers)
         self.rows = list(rows)
         self.insert({int(stop.call): stop for stop in stops.values()})
-        self.place = {spot: self.numbers.index(int(stop.call)) for spot, stop in stops.items()}
+        places = {number: at for at, number in enumerate(self.numbers)}
+        self.place = {spot: places[int(stop.call)] for spot, stop in stops.items()}
         self.hidden: Set[int] = set()
         if len(self.numbers) > len(numbers):
             public = set(numbers)
             self.hidden = {at for at, number in enumerate(self.numbers) if number not in public}
-        # the places of the first and of the last public call
-        self.first = self.numbers.index(self.first_public)
-        self.last = self.numbers.index(self.last_public)
+        # the places of the public calls, and of the first and the last of them
+        self.public = [at for at in range(len(self.rows)) if at not in self.hidden]
+        self.first = places[self.first_public]
+        self.last = places[self.last_public]
         self.ends = (location_of(self.rows[self.first]), location_of(self.rows[self.last]))
 
     def insert(self, stops: Dict[int, Stop]) -> None:
@@ -188,7 +193,13 @@ class Variant:
             self.rows.insert(at, row_at(stops[number], before, after))
 
     def public_rows(self) -> List[bytes]:
-        return [row for at, row in enumerate(self.rows) if at not in self.hidden]
+        return [self.rows[at] for at in self.public]
+
+    def records_on(self, dates: Dates) -> List[Record]:
+        """The schedules that it is on some dates, once it has all."""
+        if self.dated_records is None:
+            self.dated_records = Dated(self.records)
+        return [record for _, record in self.dated_records.on(dates)]
 
     def number(self, spot: Spot) -> Optional[int]:
         """The number of the call at a spot, if the train stops there."""
@@ -215,11 +226,8 @@ def stops_at(
     real = [
         stop for stop in stops if stop.arrival or stop.departure or int(stop.call) in public_numbers
     ]
-    found: Dict[Spot, Stop] = {}
-    for spot in spots:
-        for stop in real:
-            same_place = (stop.location, stop.suffix) == (spot.location, spot.suffix)
-            if same_place and spot.record in ("", stop.record):
-                found[spot] = stop
-                break
-    return found
+    first: Dict[Spot, Stop] = {}
+    for stop in real:
+        for record in "", stop.record:
+            first.setdefault(Spot(stop.location, stop.suffix, record), stop)
+    return {spot: first[spot] for spot in spots if spot in first}

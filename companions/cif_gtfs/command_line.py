@@ -21,10 +21,10 @@ from .conversion import Outputs, UserFiles, Wishes, convert
 from .feed import Publisher
 from .trains import EXTENDED_TYPES, TYPES
 from .user_files import INTERCHANGE, LINKS
-from .wanted import list_beside
+from .wanted import ListPlace
 
 PROGRAM = "cif-gtfs"
-# The status of a feed with places that have no coordinates.
+# The status of a feed with stations that have no coordinates.
 WANTING = 1
 # What stands for a publisher that isn't named. GTFS requires a name and an address.
 PUBLISHER = "Made by cif-gtfs, publisher not named"
@@ -37,8 +37,8 @@ Makes a GTFS feed of a CIF timetable extract, which has to be one that
 STATUSES = """\
 statuses:
   0  success
-  1  success, but places have no coordinates, which GTFS requires:
-     places-wanted.csv beside the zip lists them
+  1  success, but stations have no coordinates, which GTFS requires:
+     --places-wanted lists them
   2  a usage error
   3  a file is refused: the same file will be refused again
   4  a file can't be read or written, or memory ran out
@@ -71,6 +71,11 @@ def arguments_of(words: Optional[Sequence[str]]) -> argparse.Namespace:
         help="a further file to write: of each trip the UID, dates and retail service id",
     )
     add(
+        "--places-wanted",
+        metavar="FILE",
+        help="a further file to write: places without coordinates, to fill in for --places",
+    )
+    add(
         "-o",
         "--output",
         default="gtfs.zip",
@@ -86,14 +91,17 @@ def arguments_of(words: Optional[Sequence[str]]) -> argparse.Namespace:
 def outputs_of(asked: argparse.Namespace) -> Outputs:
     """The places of the outputs. One in the place of an input is refused."""
     feed = output_path(asked.output)
-    wanted = list_beside(asked.output)
     trips = output_path(asked.trips) if asked.trips is not None else None
-    outputs = [place for place in (feed, wanted.place, trips) if place]
+    wanted = None
+    if asked.places_wanted is not None:
+        wanted = ListPlace(output_path(asked.places_wanted), asked.places_wanted)
+    outputs = [place for place in (feed, wanted and wanted.place, trips) if place]
     others = (asked.places, asked.operators, asked.interchange, asked.links)
     check_inputs_stay(outputs, [asked.extract], others)
     if len(set(outputs)) < len(outputs):
         raise Misused("two outputs have one place")
-    wanted.check()
+    if wanted:
+        wanted.check()
     return Outputs(feed, wanted, trips)
 
 
@@ -130,8 +138,12 @@ def make_feed(asked: argparse.Namespace, progress: Progress) -> int:
         print(f"{PROGRAM}: {line}", file=sys.stderr)
     if not outcome.wanted:
         return SUCCESS
-    wanted = f"places without coordinates: {outcome.wanted}, listed in {outputs.wanted.name}"
-    print(f"{PROGRAM}: {wanted}", file=sys.stderr)
+    listed = (
+        f", listed in {outputs.wanted.name}"
+        if outputs.wanted
+        else "; --places-wanted FILE lists them"
+    )
+    print(f"{PROGRAM}: stations without coordinates: {outcome.wanted}{listed}", file=sys.stderr)
     return WANTING
 
 

@@ -6,11 +6,11 @@ how many days later than that one it runs. So a composition holds for many dates
 """
 from __future__ import annotations
 
-from typing import Dict, FrozenSet, Iterator, List, Mapping, NamedTuple, Sequence, Set, Tuple
+from typing import Collection, Dict, Iterator, List, Mapping, NamedTuple, Sequence, Tuple
 
-from cif_shared.dates import Dates, count_of, moved
+from cif_shared.dates import Dated, Dates, count_of, moved
 
-from .associations import ROLES, Association, Held, LeftOut, Reason, Role, by_uid
+from .associations import ROLES, Association, Held, LeftOut, Reason, Role, Variants, by_uid
 from .calls import Variant
 
 
@@ -36,8 +36,8 @@ class Group(NamedTuple):
     """Trains that the same associations link on some dates."""
 
     dates: Dates
-    nodes: FrozenSet[Node]
-    edges: FrozenSet[Edge]
+    nodes: Collection[Node]
+    edges: Collection[Edge]
 
     def offsets(self) -> List[int]:
         return sorted({node.offset for node in self.nodes})
@@ -48,48 +48,100 @@ class Composition(NamedTuple):
 
     dates: Dates
     variants: Mapping[Node, Variant]
-    edges: FrozenSet[Edge]
+    edges: Collection[Edge]
 
 
-OfUid = Mapping[str, Sequence[Held]]
+# The associations of each train on the dates on which they are shown, as dates of the train.
+OfUid = Mapping[str, Dated[Held]]
+
+# Dates, and the edges that are there on all of them.
+EdgesOnDates = Tuple[Dates, List[Edge]]
 
 
-def split(group: Group, node: Node, of_uid: OfUid) -> List[Group]:
-    """The group on the dates on which the same associations of one of its trains are shown."""
-    groups = [group]
-    for association, role in of_uid.get(node.uid, ()):
-        later = association.days_later if role is Role.ASSOCIATED else 0
-        edge = Edge(association, node.offset - later)
-        shown = moved(association.shown, -edge.offset)
-        found: List[Group] = []
-        for each in groups:
-            linked = each.dates & shown
-            if not linked or edge in each.edges:
-                found.append(each)
-                continue
-            nodes = each.nodes | {edge.node(other) for other in ROLES}
-            found.append(Group(linked, nodes, each.edges | {edge}))
-            if linked != each.dates:
-                found.append(each._replace(dates=each.dates & ~shown))
-        groups = found
-    return groups
+def told_apart(edges: Sequence[Tuple[Dates, Edge]]) -> List[EdgesOnDates]:
+    """The dates of edges, told apart by which of these are there: those of each half of the edges,
+    and then those of both."""
+    if len(edges) == 1:
+        [(dates, edge)] = edges
+        return [(dates, [edge])]
+    middle = len(edges) // 2
+    one, other = (Dated(told_apart(half)) for half in (edges[:middle], edges[middle:]))
+    found: List[EdgesOnDates] = []
+    for dates, of_one in zip(one.levels[0], one.items):
+        found += [(both, of_one + of_other) for both, of_other in other.on(dates)]
+        found.append((dates & ~other.dates(), of_one))
+    for dates, of_other in zip(other.levels[0], other.items):
+        found.append((dates & ~one.dates(), of_other))
+    return [each for each in found if each[0]]
+
+
+class Growth:
+    """A group that grows, and those of its trains whose associations haven't been looked at."""
+
+    def __init__(self, dates: Dates, nodes: Sequence[Node], edges: Sequence[Edge] = ()) -> None:
+        self.dates = dates
+        # in order, each once
+        self.nodes = dict.fromkeys(nodes)
+        self.edges = dict.fromkeys(edges)
+        self.pending = list(nodes)
+
+    def copy(self, dates: Dates) -> Growth:
+        copy = Growth(dates, (), list(self.edges))
+        copy.nodes = self.nodes.copy()
+        copy.pending = self.pending.copy()
+        return copy
+
+    def add(self, edges: Sequence[Edge]) -> None:
+        for edge in edges:
+            self.edges[edge] = None
+            for node in map(edge.node, ROLES):
+                if node not in self.nodes:
+                    self.nodes[node] = None
+                    self.pending.append(node)
+
+    def edges_at(self, node: Node, of_uid: OfUid) -> List[Tuple[Dates, Edge]]:
+        """The further edges of a train on some of its dates, which are those of the group."""
+        found = []
+        held = of_uid[node.uid].on(moved(self.dates, node.offset)) if node.uid in of_uid else ()
+        for dates, (association, role) in held:
+            later = association.days_later if role is Role.ASSOCIATED else 0
+            edge = Edge(association, node.offset - later)
+            if edge not in self.edges:
+                found.append((moved(dates, -node.offset), edge))
+        return found
+
+    def grown(self, node: Node, of_uid: OfUid) -> Iterator[Growth]:
+        """The groups that it becomes with the associations of one of its trains. It is changed, and
+        copied only where there are several."""
+        edges = self.edges_at(node, of_uid)
+        rest = self.dates
+        for dates, added in told_apart(edges) if edges else ():
+            rest &= ~dates
+            group = self if dates == self.dates else self.copy(dates)
+            group.add(added)
+            yield group
+        if rest:
+            self.dates = rest
+            yield self
 
 
 def groups_around(uid: str, dates: Dates, of_uid: OfUid) -> Iterator[Group]:
     """The groups that a train is in on its dates. One in which it runs on several is given once, by
     the first of these."""
-    start = Node(uid, 0)
-    pending: List[Tuple[Group, Set[Node]]] = [
-        (Group(dates, frozenset([start]), frozenset()), set())
-    ]
-    while pending:
-        group, seen = pending.pop()
-        node = next((node for node in group.nodes if node not in seen), None)
-        if node is None:
-            if all(node.offset >= 0 for node in group.nodes if node.uid == uid):
-                yield group
-        else:
-            pending += [(each, seen | {node}) for each in split(group, node, of_uid)]
+    growing = [Growth(dates, [Node(uid, 0)])]
+    while growing:
+        group = growing.pop()
+        if group.pending:
+            growing += group.grown(group.pending.pop(), of_uid)
+        elif all(node.offset >= 0 for node in group.nodes if node.uid == uid):
+            yield Group(group.dates, group.nodes, group.edges)
+
+
+def dated(held: Mapping[str, Sequence[Held]]) -> OfUid:
+    return {
+        uid: Dated([(each[0].own_dates(each[1]), each) for each in of_train])
+        for uid, of_train in held.items()
+    }
 
 
 def linked_dates(held: Sequence[Held]) -> Dates:
@@ -104,7 +156,7 @@ def all_groups(dates_of: Mapping[str, Dates], of_uid: OfUid) -> Iterator[Group]:
     """All groups of these trains on these dates, and those with which they are linked, each once."""
     covered: Dict[str, Dates] = {}
     for uid, dates in dates_of.items():
-        left = dates & linked_dates(of_uid.get(uid, ())) & ~covered.get(uid, 0)
+        left = dates & of_uid[uid].dates() & ~covered.get(uid, 0)
         for group in groups_around(uid, left, of_uid) if left else ():
             for node in group.nodes:
                 known = covered.get(node.uid, 0)
@@ -123,7 +175,8 @@ def drop_overnight(group: Group, left_out: LeftOut) -> None:
 def groups_of(associations: Sequence[Association], left_out: LeftOut) -> List[Group]:
     """All groups. Where trains of one would have to count to the date two days before theirs, its
     overnight associations aren't shown."""
-    of_uid = by_uid(associations)
+    held = by_uid(associations)
+    of_uid = dated(held)
     found: List[Group] = []
     dates_left: Dict[str, Dates] = {}
     for group in list(all_groups({uid: -1 for uid in of_uid}, of_uid)):
@@ -134,21 +187,20 @@ def groups_of(associations: Sequence[Association], left_out: LeftOut) -> List[Gr
         drop_overnight(group, left_out)
         for node in group.nodes:
             dates_left[node.uid] = dates_left.get(node.uid, 0) | moved(group.dates, node.offset)
-    return found + list(all_groups(dates_left, of_uid))
+    return found + list(all_groups(dates_left, dated(held)))
 
 
-def compositions_of(
-    group: Group, variants: Mapping[str, Sequence[Variant]]
-) -> Iterator[Composition]:
+def compositions_of(group: Group, variants: Variants) -> Iterator[Composition]:
     """A group on the dates on which all its trains are the same."""
     found: List[Tuple[Dates, Dict[Node, Variant]]] = [(group.dates, {})]
     for node in group.nodes:
-        found = [
-            (dates & own, {**chosen, node: variant})
-            for dates, chosen in found
-            for variant in variants[node.uid]
-            for own in (moved(variant.dates, -node.offset),)
-            if dates & own
-        ]
+        known, found = found, []
+        for dates, chosen in known:
+            on_dates = list(variants[node.uid].on(moved(dates, node.offset)))
+            for own, variant in on_dates:
+                # it is copied only where there are several
+                each = chosen.copy() if len(on_dates) > 1 else chosen
+                each[node] = variant
+                found.append((moved(own, -node.offset), each))
     for dates, chosen in found:
         yield Composition(dates, chosen, group.edges)

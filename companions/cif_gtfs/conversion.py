@@ -22,7 +22,7 @@ from typing import (
 )
 
 from cif_shared.csv_files import Key
-from cif_shared.dates import Dates, Window
+from cif_shared.dates import Dated, Dates, Window
 from cif_shared.endings import Refused
 from cif_shared.files import BLOCK, new_files, scratch_file
 from cif_shared.operators import OperatorRow
@@ -42,7 +42,7 @@ from .stops import Stops
 from .trains import Kind, PublicTrain, Record, ScheduleReader
 from .trips import Assembly, Link, TripsOfUid, add_records, plain_trips
 from .user_files import InterchangeRow, LinkRow
-from .wanted import ListPlace, wanted_rows, write_wanted
+from .wanted import ListPlace, wanted_of, write_wanted
 
 
 class UserFiles(NamedTuple):
@@ -55,11 +55,11 @@ class UserFiles(NamedTuple):
 
 
 class Outputs(NamedTuple):
-    """The places of the files that are written: the zip, the list of places without coordinates,
-    and the schedules of trips, if these are asked for."""
+    """The places of the files that are written: the zip, and if they are asked for the list of places
+    without coordinates, and the schedules of trips."""
 
     feed: Path
-    wanted: ListPlace
+    wanted: Optional[ListPlace]
     trips: Optional[Path]
 
 
@@ -285,10 +285,14 @@ class Conversion:
         """Writes the trips of trains with associations. Returns the links, and how many dates of
         associations are left out by reason."""
         associations = self.timetable.associations
-        left_out = decide_all(associations, variants)
+        on_dates = {
+            uid: Dated([(variant.dates, variant) for variant in of_train])
+            for uid, of_train in variants.items()
+        }
+        left_out = decide_all(associations, on_dates)
         assembly = Assembly(self.wishes.whole_trains)
         for group in groups_of(associations, left_out):
-            for composition in compositions_of(group, variants):
+            for composition in compositions_of(group, on_dates):
                 assembly.add(composition)
         held = by_uid(associations)
         for uid, of_train in variants.items():
@@ -305,11 +309,11 @@ def add_unlinked(trips: TripsOfUid, variant: Variant, dates: Dates) -> None:
     if dates:
         trip = trips.add(variant.about, variant.public_rows())
         trip.dates |= dates
-        add_records(trip, variant.records, dates)
+        add_records(trip, variant, dates)
 
 
 class Outcome(NamedTuple):
-    """How many places have no coordinates, and what is left out."""
+    """How many stations have no coordinates, and what is left out."""
 
     wanted: int
     left_out: LeftOutCounts
@@ -321,7 +325,6 @@ def convert(
     """Writes the zip, and what belongs beside it."""
     progress.show("reading trains and associations")
     with read_timetable(extract, given.places) as timetable, new_files() as files:
-        outputs.wanted.check(timetable.places)
         stops = Stops(timetable.places)
         routes = Routes(stops)
         services = Services(timetable.window)
@@ -335,7 +338,7 @@ def convert(
                 conversion = Conversion(timetable, wishes, trip_files, records)
                 variants = conversion.read_trains(extract, progress)
                 links, left_out = conversion.write_linked(variants)
-            if not routes.rows:
+            if not routes.routes:
                 raise Refused(f"{extract.path} has no public train in its window")
             progress.show("writing the other files")
             feed.copy_file(archive, "trips", trips)
@@ -343,11 +346,11 @@ def convert(
             agencies = routes.agencies(given.operators, feed.WEB, feed.TIMEZONE, feed.LANGUAGE)
             feed.write_file(archive, "agency", agencies)
             feed.write_file(archive, "stops", stops.rows())
-            feed.write_file(archive, "routes", [routes.rows[name] for name in sorted(routes.rows)])
+            feed.write_file(archive, "routes", routes.rows())
             transfers = feed.transfer_rows(links, stops, given.interchange, given.links)
             feed.write_file(archive, "transfers", transfers)
             about = feed.feed_info_row(timetable.header, wishes.publisher)
             feed.write_file(archive, "feed_info", [about])
-        wanted = wanted_rows(stops)
-        write_wanted(wanted, outputs.wanted, timetable.places, files)
-    return Outcome(len(wanted), LeftOutCounts(conversion.reader.not_for_riders, left_out))
+        wanted = wanted_of(stops)
+        write_wanted(wanted, outputs.wanted, files)
+    return Outcome(wanted.stations, LeftOutCounts(conversion.reader.not_for_riders, left_out))

@@ -1,9 +1,9 @@
 """Trips: the calls of a train, or of a part of it, on all dates on which they are the same."""
 from __future__ import annotations
 
+from bisect import bisect, bisect_left
 from hashlib import blake2b
-from typing import Dict, FrozenSet, Iterable, List, Mapping, NamedTuple, Optional, Sequence
-from typing import Tuple
+from typing import Dict, Iterable, Iterator, List, Mapping, NamedTuple, Optional, Sequence, Tuple
 
 from cif_shared.dates import Dates, moved
 from cif_shared.endings import Refused
@@ -39,7 +39,8 @@ class Trip:
         # service the train runs
         self.block = b""
         self.days_later = 0
-        self.records: List[Record] = []
+        # in order, each once
+        self.records: Dict[Record, None] = {}
 
 
 def ends_of(rows: Sequence[bytes]) -> Ends:
@@ -84,11 +85,9 @@ class TripsOfUid:
         return self
 
 
-def add_records(trip: Trip, records: Sequence[RunsAs], dates: Dates) -> None:
+def add_records(trip: Trip, variant: Variant, dates: Dates) -> None:
     """Adds the schedules that a train is on some dates."""
-    trip.records += [
-        each.record for each in records if each.dates & dates and each.record not in trip.records
-    ]
+    trip.records.update(dict.fromkeys(variant.records_on(dates)))
 
 
 # ---- trains without associations
@@ -159,12 +158,10 @@ class LinkedTrain(NamedTuple):
 
     def section(self, start: int, stop: int) -> List[bytes]:
         """The rows from one place to another, and of those that aren't public only these two."""
-        hidden = self.variant.hidden - {start, stop}
-        return [
-            days_later(self.variant.rows[at], self.days)
-            for at in range(start, stop + 1)
-            if at not in hidden
-        ]
+        public = self.variant.public
+        between = public[bisect(public, start) : bisect_left(public, stop)]
+        places = (start, *between, stop)
+        return [days_later(self.variant.rows[at], self.days) for at in places]
 
 
 def held_by(composition: Composition) -> Dict[Node, List[Held]]:
@@ -192,7 +189,8 @@ def parts_of(variant: Variant, all_held: Sequence[Held], days: int) -> List[Part
     if variant.hidden:
         first = min(first, *places)
         last = max(last, *places)
-    cuts = sorted({held.place for held in all_held if is_cut(held)} - {first, last})
+    cut = {held.place for held in all_held if is_cut(held)} - {first, last}
+    cuts = sorted(cut)
     starts = [first, *cuts]
     stops = [*cuts, last]
     parts = []
@@ -200,18 +198,20 @@ def parts_of(variant: Variant, all_held: Sequence[Held], days: int) -> List[Part
         rows = variant.rows[start : stop + 1]
         if hidden:
             rows = [row for at, row in enumerate(rows, start) if at not in hidden]
-        if start in cuts:
+        if start in cut:
             rows[0] = leaving(rows[0])
-        if stop in cuts:
+        if stop in cut:
             rows[-1] = arriving(rows[-1])
         if days:
             rows = [days_later(row, days) for row in rows]
         parts.append(Part(rows, [], []))
+    ending = dict(zip(stops, parts))
+    beginning = dict(zip(starts, parts))
     for held in all_held:
         if held.edge.association.ends_at(held.role):
-            parts[stops.index(held.place)].ends.append(held.edge)
+            ending[held.place].ends.append(held.edge)
         else:
-            parts[starts.index(held.place)].begins.append(held.edge)
+            beginning[held.place].begins.append(held.edge)
     return parts
 
 
@@ -251,9 +251,9 @@ class Assembly:
         mark = mark_of(composition, trains)
         dates = moved(composition.dates, first)
         if self.whole_trains:
+            whole = WholeTrains(composition, trains)
             for node, train in trains.items():
-                rows = WholeTrains(composition, trains).rows(node)
-                self.add_trip(node, train, rows, None, mark, dates)
+                self.add_trip(node, train, whole.rows(node), None, mark, dates)
         else:
             self.add_parts(trains, mark, dates)
 
@@ -270,7 +270,7 @@ class Assembly:
         trip = self.trips(node.uid).add(train.variant.about, rows, ends, mark)
         trip.dates |= dates
         trip.days_later = train.days
-        add_records(trip, train.variant.records, moved(dates, train.days))
+        add_records(trip, train.variant, moved(dates, train.days))
         return trip
 
     def add_parts(self, trains: Mapping[Node, LinkedTrain], mark: bytes, dates: Dates) -> None:
@@ -295,69 +295,81 @@ class Assembly:
             self.links[one.id, other.id] = (one, other)
 
 
+class Joint(NamedTuple):
+    """An association by which a train leaves another or joins it, and this other train."""
+
+    edge: Edge
+    base: Node
+
+
 class WholeTrains:
     """Trains of a composition that aren't cut: one that leaves another train has the calls of this
     before, and one that joins another train has the calls of this after, as calls of its own."""
 
     def __init__(self, composition: Composition, trains: Mapping[Node, LinkedTrain]) -> None:
-        self.composition = composition
         self.trains = trains
-
-    def joint(self, node: Node, joins: bool) -> Optional[Edge]:
-        """The association by which a train joins another, or leaves another; the first of several."""
-        found = [
-            edge
-            for edge in self.composition.edges
-            if edge.node(Role.ASSOCIATED) == node
-            and (edge.association.terms.category == JOIN) == joins
-        ]
-        found.sort(key=lambda edge: edge.association.terms)
-        return found[0] if found else None
+        # where each train leaves another, and where it joins one: the first of several
+        self.leaves: Dict[Node, Joint] = {}
+        self.joins: Dict[Node, Joint] = {}
+        for edge in sorted(composition.edges, key=lambda edge: edge.association.terms):
+            is_join = edge.association.terms.category == JOIN
+            found = self.joins if is_join else self.leaves
+            found.setdefault(edge.node(Role.ASSOCIATED), Joint(edge, edge.node(Role.BASE)))
+        # the calls of the other train that are shared so
+        self.shared: Dict[Joint, List[bytes]] = {}
 
     def place(self, edge: Edge, role: Role) -> int:
         variant = self.trains[edge.node(role)].variant
         return variant.place[edge.association.spots[role]]
 
+    def start(self, node: Node) -> int:
+        """Where a train begins that has the calls of the one that it leaves before."""
+        if node in self.leaves:
+            return self.place(self.leaves[node].edge, Role.ASSOCIATED)
+        return self.trains[node].variant.first
+
+    def stop(self, node: Node) -> int:
+        if node in self.joins:
+            return self.place(self.joins[node].edge, Role.ASSOCIATED)
+        return self.trains[node].variant.last
+
+    def shared_at(self, joint: Joint) -> List[bytes]:
+        """The calls of the other train up to where it is left, or from where it is joined on."""
+        edge, base = joint
+        place = self.place(edge, Role.BASE)
+        is_join = edge.association.terms.category == JOIN
+        ends = (place, self.stop(base)) if is_join else (self.start(base), place)
+        return self.trains[base].section(*ends)
+
+    def others(self, node: Node, joints: Mapping[Node, Joint]) -> Iterator[List[bytes]]:
+        """The calls of the train that a train leaves or joins, of the one that this does, and so on,
+        each train once."""
+        seen = {node}
+        joint = joints.get(node)
+        while joint is not None and joint.base not in seen:
+            if joint not in self.shared:
+                self.shared[joint] = self.shared_at(joint)
+            yield self.shared[joint]
+            seen.add(joint.base)
+            joint = joints.get(joint.base)
+
     def rows(self, node: Node) -> List[bytes]:
         """All calls of a train."""
-        leaves = self.joint(node, joins=False)
-        joins = self.joint(node, joins=True)
-        train = self.trains[node]
-        start = self.place(leaves, Role.ASSOCIATED) if leaves else train.variant.first
-        stop = self.place(joins, Role.ASSOCIATED) if joins else train.variant.last
-        rows = train.section(start, stop)
-        seen = frozenset([node])
-        return self.with_next(joins, self.with_former(leaves, rows, seen), seen)
-
-    def with_former(
-        self, edge: Optional[Edge], rows: List[bytes], seen: FrozenSet[Node]
-    ) -> List[bytes]:
-        """The calls of the train that an association leaves, and then these."""
-        if edge is None or edge.node(Role.BASE) in seen:
-            return rows
-        base = edge.node(Role.BASE)
-        leaves = self.joint(base, joins=False)
-        first = self.trains[base].variant.first
-        start = self.place(leaves, Role.ASSOCIATED) if leaves else first
-        before = self.trains[base].section(start, self.place(edge, Role.BASE))
-        return joined(self.with_former(leaves, before, seen | {base}), rows)
-
-    def with_next(
-        self, edge: Optional[Edge], rows: List[bytes], seen: FrozenSet[Node]
-    ) -> List[bytes]:
-        """These calls, and then those of the train that an association joins."""
-        if edge is None or edge.node(Role.BASE) in seen:
-            return rows
-        base = edge.node(Role.BASE)
-        joins = self.joint(base, joins=True)
-        last = self.trains[base].variant.last
-        stop = self.place(joins, Role.ASSOCIATED) if joins else last
-        after = self.trains[base].section(self.place(edge, Role.BASE), stop)
-        return joined(rows, self.with_next(joins, after, seen | {base}))
+        before = list(self.others(node, self.leaves))
+        own = self.trains[node].section(self.start(node), self.stop(node))
+        rows: List[bytes] = []
+        for section in (*reversed(before), own, *self.others(node, self.joins)):
+            add_section(rows, section)
+        return rows
 
 
-def joined(before: Sequence[bytes], after: Sequence[bytes]) -> List[bytes]:
-    """The calls of one train and of the next, of which the last and the first are at one place. If
+def add_section(rows: List[bytes], section: Sequence[bytes]) -> None:
+    """Adds the calls of the next train, of which the first is at the place of the last so far. If
     nobody gets on or off there, the train doesn't call there."""
-    call = met(before[-1], after[0])
-    return [*before[:-1], *(() if is_for_nobody(call) else (call,)), *after[1:]]
+    if not rows:
+        rows += section
+        return
+    call = met(rows.pop(), section[0])
+    if not is_for_nobody(call):
+        rows.append(call)
+    rows += section[1:]

@@ -1,76 +1,70 @@
-"""places-wanted.csv, the list of places without coordinates: a file of places to fill in."""
+"""The list of places without coordinates: a file of places to fill in."""
 from __future__ import annotations
 
 import csv
 from pathlib import Path
-from typing import Dict, List, NamedTuple, Optional
+from typing import List, NamedTuple, Optional
 
 from cif_shared.csv_files import Lines, Unreadable
 from cif_shared.endings import Misused
-from cif_shared.files import NewFiles, output_path
-from cif_shared.places import Places
+from cif_shared.files import NewFiles
 
 from .feed import Row, csv_of
 from .stops import Stops
 
-NAME = "places-wanted.csv"
-HEADING = ["tiploc", "name", "latitude", "longitude"]
+COORDINATES = ("latitude", "longitude")
+HEADING = ["tiploc", "name", *COORDINATES]
+# What spreadsheets write between cells.
+SEPARATORS = ",;\t"
+
+
+class Wanted(NamedTuple):
+    """What of a feed has no coordinates: how many stations, and a row for each of their TIPLOCs."""
+
+    stations: int
+    rows: List[Row]
+
+
+def wanted_of(stops: Stops) -> Wanted:
+    """A TIPLOC without a CRS code counts as a station."""
+    places = stops.without_coordinates()
+    names = stops.places.station_name
+    rows: List[Row] = [(place.name, names(place.name), "", "") for place in places]
+    return Wanted(len({stops.end_of(place.name) for place in places}), rows)
+
+
+def has_coordinates(path: Path) -> bool:
+    """Whether a row of a file has a coordinate. A spreadsheet may have written other bytes than it
+    has read."""
+    with open(path, "rb") as file:
+        lines = Lines(file, "replace")
+        heading = next(lines, "")
+        separator = max(SEPARATORS, key=heading.count)
+        names = [name.strip().lower() for name in next(csv.reader([heading], delimiter=separator))]
+        at = [names.index(name) for name in COORDINATES if name in names]
+        rows = csv.reader(lines, delimiter=separator, strict=True)
+        return any(row[place].strip() for row in rows for place in at if place < len(row))
 
 
 class ListPlace(NamedTuple):
-    """The place of a list, and its name as it is reported."""
+    """The place of a list, and its name as the user has it."""
 
     place: Path
     name: str
 
-    def check(self, places: Optional[Places] = None) -> None:
-        """Refuses to replace a list that somebody has filled in, or another file. Whether a name has
-        been filled in is known once the places of the extract are."""
+    def check(self) -> None:
+        """Refuses to replace a list that somebody has filled in, or what can't be read as one."""
         if not self.place.exists():
             return
-        names = unfilled_names(self.place)
-        if names is None or places and not are_written(names, places):
-            raise Misused(f"{self.name} has been filled in: rename it, and give it by --places")
-
-
-def list_beside(output: str) -> ListPlace:
-    """The place of the list beside a zip."""
-    name = str(Path(output).parent / NAME)
-    return ListPlace(output_path(name), name)
-
-
-def unfilled_names(path: Path) -> Optional[Dict[str, str]]:
-    """The names of a list by TIPLOC, if it has no more than these."""
-    with open(path, "rb") as file:
-        rows = csv.reader(Lines(file), strict=True)
         try:
-            if next(rows, None) != HEADING:
-                return None
-            lines = [row for row in rows if row]
+            if has_coordinates(self.place):
+                raise Misused(f"{self.name} has been filled in: rename it, and give it by --places")
         except (Unreadable, csv.Error):
-            return None
-    are_unfilled = all(len(row) == len(HEADING) and row[2:] == ["", ""] for row in lines)
-    return {row[0]: row[1] for row in lines} if are_unfilled else None
+            raise Misused(f"{self.name} isn't a list of places, so it isn't replaced") from None
 
 
-def are_written(names: Dict[str, str], places: Places) -> bool:
-    """Whether a run with these places, or one to which the user gave none, writes these names."""
-    return all(
-        name in (places.station_name(tiploc), places.described_name(tiploc))
-        for tiploc, name in names.items()
-    )
-
-
-def wanted_rows(stops: Stops) -> List[Row]:
-    """The TIPLOCs without coordinates, with the names of their stations."""
-    names = stops.places.station_name
-    return [(each.name, names(each.name), "", "") for each in stops.without_coordinates()]
-
-
-def write_wanted(rows: List[Row], wanted: ListPlace, places: Places, files: NewFiles) -> None:
-    """Writes the list, or removes an older one, unless it has been filled in meanwhile."""
-    wanted.check(places)
-    if rows:
-        files.create(wanted.place).write(csv_of([HEADING, *rows]))
-    else:
-        files.remove(wanted.place)
+def write_wanted(wanted: Wanted, place: Optional[ListPlace], files: NewFiles) -> None:
+    """Writes the list, if it is asked for, unless it has been filled in meanwhile."""
+    if place:
+        place.check()
+        files.create(place.place).write(csv_of([HEADING, *wanted.rows]))

@@ -5,7 +5,7 @@ A set of dates is a number: bit 0 is the first date of the window, bit 1 the nex
 from __future__ import annotations
 
 from datetime import date, timedelta
-from typing import Callable, Dict, List
+from typing import Callable, Dict, Generic, Iterator, List, Sequence, Tuple, TypeVar
 
 Dates = int
 
@@ -46,6 +46,38 @@ def moved(dates: Dates, days: int) -> Dates:
 def between(first: int, last: int) -> Dates:
     """The dates from one number to another, both included."""
     return (2 << last) - (1 << first)
+
+
+Item = TypeVar("Item")
+
+
+class Dated(Generic[Item]):
+    """Items with their dates. Those on some dates are found without looking at all others."""
+
+    def __init__(self, items: Sequence[Tuple[Dates, Item]]) -> None:
+        self.items = [item for _, item in items]
+        # the dates of each item, then of each two beside each other, of each four, and so on
+        self.levels: List[List[Dates]] = [[dates for dates, _ in items]]
+        while len(self.levels[-1]) > 1:
+            below = self.levels[-1]
+            pairs = [one | other for one, other in zip(below[::2], below[1::2])]
+            self.levels.append(pairs + below[2 * len(pairs) :])
+
+    def dates(self) -> Dates:
+        """The dates of all items."""
+        return self.levels[-1][0] if self.items else 0
+
+    def on(self, dates: Dates) -> Iterator[Tuple[Dates, Item]]:
+        """Each item on some of these dates, and which of them are its dates, in order."""
+        pending = [(len(self.levels) - 1, 0)] if self.items else []
+        while pending:
+            level, at = pending.pop()
+            common = self.levels[level][at] & dates
+            if common and not level:
+                yield common, self.items[at]
+            elif common:
+                last = min(2 * at + 1, len(self.levels[level - 1]) - 1)
+                pending += [(level - 1, below) for below in range(last, 2 * at - 1, -1)]
 
 
 class Window:

@@ -80,6 +80,13 @@ class Tiploc:
     coordinates: Coordinates
 
 
+class Station(NamedTuple):
+    """The name and the coordinates of a station."""
+
+    name: str
+    coordinates: Coordinates
+
+
 class Places:
     """All TIPLOCs by their names. A station is made of those with one CRS code."""
 
@@ -87,6 +94,8 @@ class Places:
         self.given = given
         self.tiplocs: Dict[str, Tiploc] = {}
         self.of_station: Dict[str, List[Tiploc]] = {}
+        # those that were asked for, by their CRS codes
+        self.stations: Dict[str, Station] = {}
         for row in rows:
             name = row.tiploc.strip()
             if name not in self.tiplocs:
@@ -107,10 +116,6 @@ class Places:
         """The TIPLOC of this name. Of one that the extract doesn't list no more is known."""
         return self.tiplocs.get(name) or self.add(name, "", "")
 
-    def described_name(self, name: str) -> str:
-        """The name of the station of a TIPLOC, whatever the user says."""
-        return self.siblings(self.tiploc(name))[0].description
-
     def siblings(self, tiploc: Tiploc) -> List[Tiploc]:
         """The TIPLOCs of its station, in the order of the extract."""
         return self.of_station.get(tiploc.crs) or [tiploc]
@@ -118,12 +123,24 @@ class Places:
     def station_name(self, name: str) -> str:
         """The name of the station of a TIPLOC: the first that the user gives one of its TIPLOCs, or
         else the description of the first one."""
-        siblings = self.siblings(self.tiploc(name))
-        given = (sibling.given_name for sibling in siblings if sibling.given_name)
-        return next(given, siblings[0].description)
+        return self.shown(self.tiploc(name)).name
 
     def coordinates(self, name: str) -> Coordinates:
         """Those of a TIPLOC, or else of the first one of its station that has some."""
         tiploc = self.tiploc(name)
-        known = (each.coordinates for each in (tiploc, *self.siblings(tiploc)))
-        return next((each for each in known if each != NO_COORDINATES), NO_COORDINATES)
+        if tiploc.coordinates != NO_COORDINATES:
+            return tiploc.coordinates
+        return self.shown(tiploc).coordinates
+
+    def shown(self, tiploc: Tiploc) -> Station:
+        """The station of a TIPLOC, which is looked for among all of its TIPLOCs once."""
+        found = self.stations.get(tiploc.crs)
+        if found is None:
+            siblings = self.siblings(tiploc)
+            names = (each.given_name for each in siblings if each.given_name)
+            known = (each.coordinates for each in siblings if each.coordinates != NO_COORDINATES)
+            name = next(names, siblings[0].description)
+            found = Station(name, next(known, NO_COORDINATES))
+            if tiploc.crs:
+                self.stations[tiploc.crs] = found
+        return found

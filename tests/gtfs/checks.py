@@ -102,15 +102,10 @@ class Maker:
         call = [COMPANIONS / program, *named, *words]
         return subprocess.run(call, cwd=self.folder, capture_output=True, text=True, check=False)
 
-    def clear(self) -> None:
-        """Removes the feed and the list of places that another extract has left."""
-        for name in "feed.zip", "places-wanted.csv":
-            (self.folder / name).unlink(missing_ok=True)
-
     def feed(self, *words: Word) -> Tuple[subprocess.CompletedProcess[str], Dict[str, str]]:
         """The answer, and the files of the zip it has made, as texts by their names."""
         made = self.folder / "feed.zip"
-        self.clear()
+        made.unlink(missing_ok=True)
         done = self.run("-o", made.name, *words)
         if not made.exists():
             raise RuntimeError(f"cif-gtfs {words} ends with {done.returncode}: {done.stderr}")

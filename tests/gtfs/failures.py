@@ -212,7 +212,8 @@ def check_outputs(counts: Counts, maker: Maker, special: Path) -> None:
     kinds = {path.name: path.lstat().st_mode for path in folder.iterdir()}
     for output in others:
         refused(counts, maker, f"the output {output!r}", 2, None, "-o", output, special)
-        refused(counts, maker, f"the trips {output!r}", 2, None, "--trips", output, special)
+        for option in "--trips", "--places-wanted":
+            refused(counts, maker, f"{option} {output!r}", 2, None, option, output, special)
     counts.same(
         "what wasn't a file stays",
         kinds,
@@ -237,87 +238,74 @@ def check_outputs(counts: Counts, maker: Maker, special: Path) -> None:
     )
 
 
-# Lists of places without coordinates that somebody has filled in, or that are other files.
+# Lists of places without coordinates that somebody has filled in, also by a spreadsheet that writes
+# other separators or letters.
 LIST_HEADING = "tiploc,name,latitude,longitude\n"
 FILLED = {
-    "coordinates": LIST_HEADING + "ALPHA,Alpha Junction,51,0\n",
+    "coordinates": LIST_HEADING + "OMEGA,Omega,,\nALPHA,Alpha Junction,51,0\n",
     "a longitude": LIST_HEADING + "ALPHA,Alpha Junction,,0\n",
     "a latitude": LIST_HEADING + "ALPHA,Alpha Junction,51,\n",
-    "a name": LIST_HEADING + "ALPHA,Alpha,,\nOMEGA,Omega,,\n",
-    "no name": LIST_HEADING + "ALPHA,,,\n",
-    "a place that the extract doesn't list": LIST_HEADING + "NOWHERE,The End,,\n",
-    "a remark": LIST_HEADING + "ALPHA,Alpha Junction,,,ask\n",
-    "another file": "monday,tuesday,,\nCall Ann,,,\n",
-    "no CSV": LIST_HEADING + 'ALPHA,"Alpha Junction\n',
+    "other fields": "Latitude ,tiploc\n,BETA\n\n51,ALPHA\n",
+    "semicolons": "\ufeffname;latitude;longitude\r\nK\xf6ln, east;51,5;0\r\n",
+    "tabs": "name\tlatitude\tlongitude\nAlpha\t\t0\n",
+}
+UNREADABLE = {"no CSV": LIST_HEADING + 'ALPHA,"Alpha Junction\n', "a byte 0": "\0"}
+# What has no coordinate: an older list, also of another extract, and what isn't a list at all.
+UNFILLED = {
+    "an older list": LIST_HEADING + "ALPHA,Alpha,,\nNOWHERE,The End, ,\n",
+    "names": LIST_HEADING + "ALPHA,,,\n",
+    "no rows": LIST_HEADING,
+    "another file": "monday,tuesday\n1,2\n",
+    "short rows": LIST_HEADING + "ALPHA\n\n",
+    "nothing": "",
 }
 
 
-def check_filled(counts: Counts, maker: Maker, special: Path, places: Path) -> None:
-    """A list that somebody has filled in is neither replaced nor removed."""
-    wanted = maker.folder / "folder" / "places-wanted.csv"
-    told = [
-        "cif-gtfs: folder/places-wanted.csv has been filled in: rename it, and give it by --places"
-    ]
-    calls: List[Tuple[Word, ...]] = [(), ("--places", places)]
-    for name, text in FILLED.items():
-        wanted.write_text(text)
-        for words in calls:
-            words = ("-o", "folder/feed.zip", *words, special)
-            refused(counts, maker, f"a list with {name}, {words[2:-1]}", 2, told, *words)
-            counts.same(f"a list with {name} stays", text, wanted.exists() and wanted.read_text())
-
-
-def check_place_of_wanted(counts: Counts, maker: Maker, special: Path, unfilled: str) -> None:
-    """The list is a file, or a link to one, as any output."""
-    folder = maker.folder / "folder"
-    wanted, behind = folder / "places-wanted.csv", maker.folder / "behind.csv"
-    wanted.unlink()
-    for is_pipe in False, True:
-        (os.mkfifo if is_pipe else os.mkdir)(wanted)
-        name = "a list that isn't a file"
-        refused(counts, maker, name, 2, None, "-o", "folder/feed.zip", special)
-        (os.unlink if is_pipe else os.rmdir)(wanted)
-    behind.write_text(LIST_HEADING)
-    wanted.symlink_to("../behind.csv")
-    done = maker.run("-o", "folder/feed.zip", special)
-    counts.same(
-        "a list behind a link",
-        (1, True, unfilled),
-        (done.returncode, wanted.is_symlink(), behind.read_text()),
-    )
-    wanted.unlink()
-    behind.rename(wanted)
+def check_filled(counts: Counts, maker: Maker, special: Path) -> None:
+    """A list that somebody has filled in isn't replaced."""
+    wanted = maker.folder / "folder" / "wanted.csv"
+    words = ("-o", "folder/feed.zip", "--places-wanted", "folder/wanted.csv", special)
+    filled = "cif-gtfs: folder/wanted.csv has been filled in: rename it, and give it by --places"
+    unread = "cif-gtfs: folder/wanted.csv isn't a list of places, so it isn't replaced"
+    for texts, told in (FILLED, filled), (UNREADABLE, unread):
+        for name, text in texts.items():
+            for encoding in "utf-8", "latin-1":
+                data = text.encode(encoding, "ignore")
+                wanted.write_bytes(data)
+                refused(counts, maker, f"a list with {name}", 2, [told], *words)
+                counts.same(f"a list with {name} stays", data, wanted.read_bytes())
 
 
 def check_wanted(counts: Counts, maker: Maker, special: Path) -> None:
-    """An older list of places without coordinates goes when no place is without, but not if somebody has filled it in."""
+    """The list of places without coordinates is written where it is asked for, and nowhere else."""
     folder = maker.folder / "folder"
-    wanted = folder / "places-wanted.csv"
-    counts.test("places are wanted beside the name that is given", wanted.exists())
-    places = maker.folder / "all.csv"
-    unfilled = wanted.read_text()
-    names = [line.partition(",")[0] for line in unfilled.splitlines()[1:]]
-    places.write_text(
-        "tiploc,name,latitude,longitude\n" + "".join(f"{name},,51,-.5\n" for name in names)
+    wanted = folder / "wanted.csv"
+    counts.same(
+        "no list is written unasked", ["link.zip"], [path.name for path in folder.iterdir()]
     )
-    renamed = maker.folder / "renamed.csv"
-    renamed.write_text(unfilled.replace(",,", ",51,-.5"))
-    done = maker.run("--places", renamed, "-o", "renamed.zip", special)
-    counts.same("a list that is filled in and renamed", 0, done.returncode)
-    (maker.folder / "renamed.zip").unlink()
+    words = ("-o", "folder/feed.zip", "--places-wanted", "folder/wanted.csv")
+    maker.run(*words, special)
+    text = wanted.read_text()
+    for name, older in UNFILLED.items():
+        wanted.write_text(older)
+        done = maker.run(*words, special)
+        counts.same(f"a list over {name}", (1, text), (done.returncode, wanted.read_text()))
+    # the same list of next night's extract, in which a place has another name
+    renamed = maker.folder / "next.cif"
+    renamed.write_text(special.read_text().replace("OMEGA   ", "OMEGB   "))
+    done = maker.run(*words, renamed)
+    counts.same("a list over that of another extract", 1, done.returncode)
+    counts.test("the list of another extract", "\nOMEGB," in wanted.read_text(), wanted.read_text())
     renamed.unlink()
-    check_filled(counts, maker, special, places)
-    check_place_of_wanted(counts, maker, special, unfilled)
-    named = maker.folder / "named.csv"
-    named.write_text(places.read_text().replace(",,", ",Another name,"))
-    for text in unfilled, unfilled + "\n", unfilled.replace("\n", "\r\n"):
-        for given in places, named:
-            wanted.write_bytes(text.encode())
-            done = maker.run("-o", "folder/feed.zip", "--places", given, special)
-            counts.same("no place is wanted", (0, False), (done.returncode, wanted.exists()))
+    filled = maker.folder / "filled.csv"
+    filled.write_text(text.replace(",,", ",51,-.5"))
+    done = maker.run(*words, "--places", filled, special)
+    counts.same("no place is wanted", (0, LIST_HEADING), (done.returncode, wanted.read_text()))
+    counts.test("no place is wanted, told", "coordinates" not in done.stderr, done.stderr)
+    filled.unlink()
+    check_filled(counts, maker, special)
     shutil.rmtree(folder)
-    for name in "all.csv", "named.csv", "target.zip":
-        (maker.folder / name).unlink()
+    (maker.folder / "target.zip").unlink()
 
 
 def check_pipes(counts: Counts, maker: Maker, special: Path) -> None:
@@ -338,7 +326,6 @@ def check_pipes(counts: Counts, maker: Maker, special: Path) -> None:
             }
         counts.test(f"an extract from {name}", want == got)
     feed.unlink()
-    (maker.folder / "places-wanted.csv").unlink()
 
 
 def check_hints(counts: Counts, maker: Maker, special: Path) -> None:
@@ -518,9 +505,9 @@ def check_words(counts: Counts, maker: Maker, special: Path) -> None:
     ]
     for words in calls:
         refused(counts, maker, f"the words {words}", 2, None, *words)
-    wanted = maker.folder / "places-wanted.csv"
-    wanted.write_text("tiploc,name,latitude,longitude\n")
-    calls = [("-o", special, special), ("-o", "gtfs.zip", "--places", wanted, special)]
+    wanted = maker.folder / "wanted.csv"
+    wanted.write_text(LIST_HEADING)
+    calls = [("-o", special, special), ("--places-wanted", wanted, "--places", wanted, special)]
     for words in calls:
         refused(counts, maker, f"an output in the place of an input, {words[1]}", 2, None, *words)
     wanted.unlink()
@@ -589,8 +576,7 @@ def check_names(counts: Counts, maker: Maker, special: Path) -> None:
     done = maker.run("-o", longest, special)
     counts.same("the longest name, status", 1, done.returncode)
     counts.test("the longest name", zipfile.is_zipfile(longest))
-    for path in longest, maker.folder / "places-wanted.csv":
-        path.unlink(missing_ok=True)
+    longest.unlink(missing_ok=True)
     told = [f"cif-gtfs: {longest}a: File name too long"]
     refused(counts, maker, "a longer name", 4, told, "-o", f"{longest}a", special)
     told = ["cif-gtfs: '': No such file or directory"]
@@ -884,9 +870,8 @@ def check_rest(counts: Counts, maker: Maker) -> None:
     long = "".join(LONG.format(number=n, calls=PASSING * PASSINGS) for n in range(LONG_TRAINS))
     extract = maker.folder / "long.cif"
     extract.write_bytes(b"".join(padded(*(DIVIDING + long + "ZZ").splitlines())))
-    maker.clear()
     done = maker.run(extract)
-    wanted = ["cif-gtfs: places without coordinates: 2, listed in places-wanted.csv"]
+    wanted = ["cif-gtfs: stations without coordinates: 2; --places-wanted FILE lists them"]
     counts.same(
         "calls after linked trains", (1, wanted), (done.returncode, done.stderr.splitlines())
     )

@@ -277,7 +277,6 @@ def check_taken(counts: Counts, maker: Maker, outputs: Dict[str, str]) -> None:
         (maker.folder / f"{kind}.csv").write_text(text)
         options.append((kind.partition("-")[2], f"{kind}.csv"))
     example = Path(__file__).resolve().parents[2] / "examples" / "timetable.cif"
-    maker.clear()
     for name, path in options:
         done = maker.run(f"--{name}", path, example)
         counts.test(

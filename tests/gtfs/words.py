@@ -12,7 +12,7 @@ PROGRAMS = ("cif-gtfs", "cif-gtfs-csv")
 
 # What bash offers behind these words: words, or `files`.
 LINES: Dict[str, List[str]] = {
-    "cif-gtfs --pl": ["--places"],
+    "cif-gtfs --pl": ["--places", "--places-wanted"],
     "cif-gtfs --places ": ["files"],
     "cif-gtfs -o ": ["files"],
     "cif-gtfs --from ": [],
