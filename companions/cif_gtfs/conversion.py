@@ -339,7 +339,7 @@ def convert(
                 variants = conversion.read_trains(extract, progress)
                 links, left_out = conversion.write_linked(variants)
             if not routes.routes:
-                raise Refused(f"{extract.path} has no public train in its window")
+                raise Refused(f"{extract.name} has no public train in its window")
             progress.show("writing the other files")
             feed.copy_file(archive, "trips", trips)
             feed.write_services(archive, services)

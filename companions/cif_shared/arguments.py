@@ -2,16 +2,32 @@
 from __future__ import annotations
 
 import argparse
+import re
 import sys
-from typing import IO, Optional
+from itertools import takewhile
+from typing import IO, List, Optional, Sequence, Tuple
 
 from . import VERSION
 from .endings import SUCCESS
 from .running import open_streams, run, standard_output
 
 
+# An option with the value `--`, which argparse takes away in some releases of Python.
+WITHOUT_VALUE = re.compile(r"(--[a-z-]+)=--|(-[a-z])--")
+
+
 class Parser(argparse.ArgumentParser):
     """Reads arguments. If the help or the version can't be written, the run ends as any other."""
+
+    def parse_known_args(
+        self, args: Optional[Sequence[str]] = None, namespace: Optional[argparse.Namespace] = None
+    ) -> Tuple[argparse.Namespace, List[str]]:
+        words = sys.argv[1:] if args is None else args
+        for word in takewhile(lambda word: word != "--", words):
+            found = WITHOUT_VALUE.fullmatch(word)
+            if found:
+                self.error(f"argument {found[1] or found[2]}: expected one argument")
+        return super().parse_known_args(words, namespace)
 
     def _print_message(self, message: str, file: Optional[IO[str]] = None) -> None:
         if file is not sys.stdout:

@@ -22,8 +22,9 @@ def find_cif(asked: Optional[str]) -> Cif:
     if asked is not None:
         return Cif(asked)
     own = Path(sys.argv[0]).resolve().parent
-    found = shutil.which("cif", path=str(own)) or shutil.which("cif", path=str(own.parent))
-    found = found or shutil.which("cif")
+    # a path is looked at as it stands, and isn't split at its colons
+    beside, above = str(own / "cif"), str(own.parent / "cif")
+    found = shutil.which(beside) or shutil.which(above) or shutil.which("cif")
     if found is None:
         raise Failed("cif isn't found: --cif says which program it is")
     return Cif(found)

@@ -66,6 +66,14 @@ def description_of(problem: OSError) -> str:
     return f"{os.fspath(problem.filename) or repr('')}: {reason}"
 
 
+def is_want_of_memory(problem: Exception) -> bool:
+    """Whether memory ran out, of which Python says so in several ways."""
+    if isinstance(problem, RuntimeError):
+        return "start new thread" in str(problem)
+    no_room = isinstance(problem, ImportError) and "failed to map" in str(problem)
+    return no_room or isinstance(problem, MemoryError)
+
+
 def leave_cycles() -> None:
     """Ends Python's looking for cycles: nothing that is kept has any, and it takes a tenth of the
     time."""
@@ -88,12 +96,12 @@ def run(program: str, work: Callable[[Progress], int]) -> int:
     except OSError as problem:
         text = f"{program}: {description_of(problem)}"
         status = FAILED
-    except MemoryError:
-        text = f"{program}: memory ran out"
-        status = FAILED
-    except Exception:  # pylint: disable=broad-except
+    except Exception as problem:  # pylint: disable=broad-except
         # Python's own status, 1, may mean something else
-        text = f"{traceback.format_exc()}{program}: this is a fault of {program}, or its cif is another program"
+        text = f"{program}: memory ran out"
+        if not is_want_of_memory(problem):
+            fault = f"{program}: this is a fault of {program}, or its cif is another program"
+            text = f"{traceback.format_exc()}{fault}"
         status = FAILED
     for number in INTERRUPTS:
         signal.signal(number, signal.SIG_IGN)

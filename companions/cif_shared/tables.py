@@ -14,7 +14,7 @@ from typing import Sequence, Type, TypeVar
 
 from .cif import Cif
 from .endings import CifEnded, Failed, Misused, Unexpected
-from .files import BLOCK, named_scratch_file
+from .files import BLOCK, scratch_file_with_path
 
 Row = TypeVar("Row", bound=NamedTuple)
 
@@ -153,9 +153,13 @@ class Extract:
     """An extract in a file, with the words that ask for a part of its window. All of its tables are
     of the same bytes, or the run ends."""
 
-    def __init__(self, cif: Cif, path: Path, words: Sequence[str], copied: bool = False) -> None:
+    def __init__(
+        self, cif: Cif, path: Path, words: Sequence[str], copied: bool = False, name: str = ""
+    ) -> None:
         self.cif = cif
         self.path = path
+        # as the user has it
+        self.name = name or str(path)
         self.words = words
         self.copied = copied
         self.state = state_of(path)
@@ -169,7 +173,7 @@ class Extract:
 
     def check_state(self) -> None:
         if state_of(self.path) != self.state:
-            raise Failed(f"{self.path} has changed while it was read")
+            raise Failed(f"{self.name} has changed while it was read")
 
     @contextmanager
     def table(self, name: str) -> Iterator[Table]:
@@ -187,7 +191,7 @@ class Extract:
     def part(self, uids: Collection[bytes]) -> Iterator[Optional[Extract]]:
         """An extract of some trains alone, since no other record says what runs of these. There is
         none if not all lines have one length."""
-        with named_scratch_file() as (part, path):
+        with scratch_file_with_path() as (part, path):
             with open(self.path, "rb") as whole:
                 found = write_part(whole, uids, part)
             part.flush()
@@ -269,7 +273,7 @@ def write_part(
 @contextmanager
 def with_head(extract: Extract) -> Iterator[Extract]:
     """The extract with a file of what stands before its schedules."""
-    with named_scratch_file() as (head, path):
+    with scratch_file_with_path() as (head, path):
         with open(extract.path, "rb") as whole:
             found = write_head(whole, head)
         head.flush()
@@ -301,13 +305,13 @@ def open_extract(
         if copied:
             source = sys.stdin.buffer if name == "-" else stack.enter_context(open(name, "rb"))
             path = stack.enter_context(copy_of(source))
-        yield stack.enter_context(with_head(Extract(cif, path, words, copied)))
+        yield stack.enter_context(with_head(Extract(cif, path, words, copied, name)))
 
 
 @contextmanager
 def copy_of(source: IO[bytes]) -> Iterator[Path]:
     """The path of a temporary file with all that a source gives."""
-    with named_scratch_file() as (copy, path):
+    with scratch_file_with_path() as (copy, path):
         shutil.copyfileobj(source, copy, BLOCK)
         copy.flush()
         yield path
