@@ -10,7 +10,7 @@ from cif_shared.endings import Refused
 from cif_shared.schedules import rows_of
 
 from .associations import DIVIDE, JOIN, ROLES, Role
-from .calls import RunsAs, Variant, arriving, days_later, is_for_nobody, leaving, location_of, met
+from .calls import Variant, arriving, days_later, is_for_nobody, leaving, location_of, met
 from .compositions import Composition, Edge, Node
 from .routes import Ends
 from .stops import coded

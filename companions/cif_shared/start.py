@@ -35,7 +35,7 @@ def main() -> None:
         os.write(2, f"{os.path.basename(program)}: {reason}\n".encode(errors="replace"))
     finally:
         # whatever else fails as Python ends
-        os._exit(FAILED)
+        os._exit(FAILED)  # pylint: disable=protected-access
 
 
 if __name__ == "__main__":

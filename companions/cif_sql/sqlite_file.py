@@ -106,7 +106,7 @@ def opened(path: Path, place: Path) -> Iterator[sqlite3.Connection]:
             connection.execute("PRAGMA journal_mode = OFF")
             connection.execute("PRAGMA synchronous = OFF")
             yield connection
-    except sqlite3.OperationalError as problem:
+    except sqlite3.DatabaseError as problem:
         raise Failed(f"{place}: {problem}") from None
 
 
