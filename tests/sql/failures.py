@@ -4,6 +4,7 @@ from __future__ import annotations
 import hashlib
 import os
 import resource
+import shutil
 import signal
 import sqlite3
 import subprocess
@@ -317,7 +318,7 @@ def check_signals(counts: Counts, maker: Maker, special: Path) -> None:
         if number != signal.SIGKILL:
             counts.same(f"stopped by {name}, what is left", before, left(maker))
     for path in maker.folder.glob(".kept.db.*"):
-        path.unlink()
+        shutil.rmtree(path)
     (maker.folder / "failing-cif").unlink()
 
 
@@ -399,9 +400,9 @@ def check_kills(counts: Counts, maker: Maker, special: Path) -> None:
         there = reference
     # the first kill comes long before the end
     counts.test("kills come before the end", True in seen, seen)
-    for path in maker.folder.glob(".kept.db.*"):
-        path.unlink()
     maker.run(*words[3:], special)
+    over = [path.name for path in maker.folder.glob(".kept.db.*")]
+    counts.same("what killed runs have left, after the next one", [], over)
 
 
 def check_readers(counts: Counts, maker: Maker, special: Path) -> None:
