@@ -53,7 +53,7 @@ exec "{cif}" "$@"
 # What is asked for last, when the outputs have been looked at.
 LAST = {"cif-gtfs": "public", "cif-report": "diff", "cif-sql": "calls"}
 # Kilobytes of address space, from what Python itself needs to what is enough.
-LEAST, MOST, STEP = 18_000, 50_000, 4_000
+LEAST, MOST, STEP = 22_000, 50_000, 4_000
 
 
 class Programs(InFolder):
@@ -109,8 +109,14 @@ class Programs(InFolder):
 
     def test_little_memory(self) -> None:
         """It runs out, or is enough. Python's own status, 1, would be a success of cif-gtfs."""
+        start = ["python3", "-B", "-c", "pass"]
+        limits = [
+            memory
+            for memory in range(LEAST, MOST, STEP)
+            if self.run_words(start, memory=memory).returncode == 0
+        ]
         for program, (_, success, outputs) in CALLS.items():
-            for memory in range(LEAST, MOST, STEP):
+            for memory in limits:
                 with self.subTest(program, memory=memory):
                     self.clear()
                     done = self.run_words(self.words(program), memory=memory)
