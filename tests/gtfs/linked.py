@@ -114,6 +114,36 @@ def check_chain(counts: Counts, maker: Maker) -> None:
     counts.same("the stops of the last train", [f"P{n:05}" for n in range(CHAIN + 1)], stops)
 
 
+# Two trains each of which goes on as the other one, all in one minute.
+CIRCLE = """\
+HDTPS.UTEST01.PD2601040401262000DFTEST1       FA050126250126
+AANA00001A000022601052601251111111NPSHERE     TP
+AANA00002A000012601052601251111111NPSTHERE    TP
+BSNA000012601052601251111111 PXX1A23    122104000 DMU    090
+BX         SRY
+LOTHERE   1000 10001         TB
+LTHERE    1000 10001     TF
+BSNA000022601052601251111111 PXX1A23    122104000 DMU    090
+BX         SRY
+LOHERE    1000 10001         TB
+LTTHERE   1000 10001     TF
+ZZ
+"""
+
+
+def check_circle(counts: Counts, maker: Maker) -> None:
+    """Of trains that go on in a circle each has the calls of the other one before, and each once."""
+    extract = maker.folder / "circle.cif"
+    lines = [f"{line:79}{'P' * (line[:2] in ('AA', 'BS')):1}" for line in CIRCLE.splitlines()]
+    extract.write_text("".join(f"{line}\n" for line in lines))
+    _, files = maker.feed("--whole-trains", extract)
+    stops: Dict[str, List[str]] = {}
+    for row in rows_of(files["stop_times"]):
+        stops.setdefault(row["trip_id"].partition("-")[0], []).append(row["stop_id"])
+    want = {"A00001": ["HERE", "THERE", "HERE"], "A00002": ["THERE", "HERE", "THERE"]}
+    counts.same("whole trains in a circle", want, stops)
+
+
 # ---- routes between stations of one name
 
 TIPLOCS = (
@@ -168,4 +198,5 @@ def check(counts: Counts, maker: Maker) -> None:
     check_dated(counts, rng)
     check_told_apart(counts, rng)
     check_chain(counts, maker)
+    check_circle(counts, maker)
     check_namesakes(counts, maker)

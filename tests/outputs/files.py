@@ -2,6 +2,7 @@
 from __future__ import annotations
 
 import errno
+import fcntl
 import os
 import signal
 import tempfile
@@ -188,21 +189,34 @@ class LeftOver(InFolder):
             files.create(place).write(b"new")
         self.assertTrue(left.exists())
 
-    def test_folder_that_another_run_removes(self) -> None:
-        """Before a new folder is locked another run may take it for one that is left over."""
-        place = self.folder / "a"
-        real = tempfile.mkdtemp
+    def write_with_folder_removed(self, by_lock: bool) -> int:
+        """How many folders a run makes of which the first is removed: when it is to be locked, or at
+        once."""
+        make, lock = tempfile.mkdtemp, fcntl.flock
         made: List[str] = []
 
-        def taken_away(dir: Path, prefix: str) -> str:  # pylint: disable=redefined-builtin
-            made.append(real(dir=dir, prefix=prefix))
-            if len(made) == 1:
+        def new_folder(dir: Path, prefix: str) -> str:  # pylint: disable=redefined-builtin
+            made.append(make(dir=dir, prefix=prefix))
+            if len(made) == 1 and not by_lock:
                 os.rmdir(made[0])
             return made[-1]
 
-        with mock.patch("tempfile.mkdtemp", taken_away), new_files() as files:
-            files.create(place).write(b"new")
-        self.assertEqual((2, ["a new"]), (len(made), self.texts()))
+        def take(descriptor: int, operation: int) -> None:
+            if len(made) == 1 and by_lock:
+                os.rmdir(made[0])
+            lock(descriptor, operation)
+
+        with mock.patch("tempfile.mkdtemp", new_folder), mock.patch("fcntl.flock", take):
+            with new_files() as files:
+                files.create(self.folder / "a").write(b"new")
+        return len(made)
+
+    def test_folder_that_another_run_removes(self) -> None:
+        """Before a new folder is locked another run may take it for one that is left over."""
+        for by_lock in False, True:
+            with self.subTest(by_lock=by_lock):
+                self.assertEqual(2, self.write_with_folder_removed(by_lock))
+                self.assertEqual(["a new"], self.texts())
 
     def test_temporary_file_has_no_name(self) -> None:
         with mock.patch("tempfile.tempdir", str(self.folder)):

@@ -197,6 +197,14 @@ class Programs(InFolder):
                     wanted = [f"{last} ", *([f"{other} {text}"] if text else [])]
                     self.assertEqual(sorted(wanted), self.texts())
 
+    def test_list_that_is_filled_in_meanwhile(self) -> None:
+        filled = "tiploc,name,latitude,longitude\nA,B,51,0\n"
+        words = self.changed_cif("cif-gtfs", f"printf '{filled}' > wanted.csv")
+        done = self.run_words([*words, "--places-wanted", "wanted.csv"])
+        self.assertIn("wanted.csv has been filled in", done.stderr)
+        (self.folder / "changed-cif").unlink()
+        self.assertEqual((2, [f"wanted.csv {filled}"]), (done.returncode, self.texts()))
+
     @unittest.skipUnless(shutil.which("strace"), "strace isn't installed")
     def test_disk_that_can_not_be_read(self) -> None:
         """SQLite reads its files so. Python's modules are read before."""
