@@ -235,14 +235,6 @@ def remove_unlocked(folder: Path) -> None:
         os.close(descriptor)
 
 
-def put_back(older: Optional[Path], place: Path) -> None:
-    """Leaves a place as it was before a new file came there."""
-    if older is None:
-        place.unlink()
-    else:
-        os.replace(older, place)
-
-
 class NewFiles:
     """New files, each written beside its place."""
 
@@ -278,8 +270,8 @@ class NewFiles:
             file.close()
         for path, place, mode in self.written:
             with faults_of(place):
-                path.chmod(mode)
                 synchronise(path)
+                path.chmod(mode)
         with interrupts_waiting():
             self.replace_all()
             ignore_interrupts()
@@ -293,8 +285,11 @@ class NewFiles:
                     # one file alone takes its place or doesn't
                     several = len(self.written) > 1
                     older = self.folders[place].keep(place) if several else None
+                    if older:
+                        undo.callback(os.replace, older, place)
                     os.replace(path, place)
-                undo.callback(put_back, older, place)
+                    if not older:
+                        undo.callback(os.unlink, place)
             undo.pop_all()
 
     def discard(self) -> None:

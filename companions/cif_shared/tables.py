@@ -305,7 +305,8 @@ def open_extract(
         if copied:
             source = sys.stdin.buffer if name == "-" else stack.enter_context(open(name, "rb"))
             path = stack.enter_context(copy_of(source))
-        yield stack.enter_context(with_head(Extract(cif, path, words, copied, name)))
+        shown = "standard input" if name == "-" else name
+        yield stack.enter_context(with_head(Extract(cif, path, words, copied, shown)))
 
 
 @contextmanager

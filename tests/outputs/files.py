@@ -7,8 +7,9 @@ import os
 import signal
 import tempfile
 import unittest
+from contextlib import nullcontext
 from pathlib import Path
-from typing import List
+from typing import ContextManager, List
 from unittest import mock
 
 from cif_shared.endings import Failed
@@ -90,6 +91,24 @@ class Replacing(InFolder):
             (self.folder / "b").rmdir()
             self.write()
         self.assertEqual(["a new", "b new"], self.texts())
+
+    def test_second_can_not_be_replaced(self) -> None:
+        """The older files are put back, whether they are linked meanwhile or moved."""
+        real, second = os.replace, self.folder / "b"
+
+        def replace(path: Path, place: Path) -> None:
+            if place == second and path.name != "older":
+                raise PermissionError(errno.EPERM, "No")
+            real(path, place)
+
+        no_links = mock.patch("os.link", side_effect=PermissionError(errno.EPERM, "No"))
+        kinds: List[ContextManager[object]] = [no_links, nullcontext()]
+        for links in kinds:
+            for name in "a", "b":
+                (self.folder / name).write_text("older", encoding="utf-8")
+            with links, mock.patch("os.replace", replace):
+                self.check_refused("No")
+            self.assertEqual(["a older", "b older"], self.texts())
 
     def test_disk_fails(self) -> None:
         """What can't be written to the disk is named as the user has it."""
