@@ -87,6 +87,9 @@ class Places:
         self.given = given
         self.tiplocs: Dict[str, Tiploc] = {}
         self.of_station: Dict[str, List[Tiploc]] = {}
+        # of each CRS code, once it is asked for, since a station may have very many TIPLOCs
+        self.station_names: Dict[str, str] = {}
+        self.station_coordinates: Dict[str, Coordinates] = {}
         for row in rows:
             name = row.tiploc.strip()
             if name not in self.tiplocs:
@@ -118,12 +121,22 @@ class Places:
     def station_name(self, name: str) -> str:
         """The name of the station of a TIPLOC: the first that the user gives one of its TIPLOCs, or
         else the description of the first one."""
-        siblings = self.siblings(self.tiploc(name))
-        given = (sibling.given_name for sibling in siblings if sibling.given_name)
-        return next(given, siblings[0].description)
+        tiploc = self.tiploc(name)
+        if tiploc.crs not in self.of_station:
+            return tiploc.given_name or tiploc.description
+        if tiploc.crs not in self.station_names:
+            siblings = self.siblings(tiploc)
+            given = (sibling.given_name for sibling in siblings if sibling.given_name)
+            self.station_names[tiploc.crs] = next(given, siblings[0].description)
+        return self.station_names[tiploc.crs]
 
     def coordinates(self, name: str) -> Coordinates:
         """Those of a TIPLOC, or else of the first one of its station that has some."""
         tiploc = self.tiploc(name)
-        known = (each.coordinates for each in (tiploc, *self.siblings(tiploc)))
-        return next((each for each in known if each != NO_COORDINATES), NO_COORDINATES)
+        if tiploc.coordinates != NO_COORDINATES or tiploc.crs not in self.of_station:
+            return tiploc.coordinates
+        if tiploc.crs not in self.station_coordinates:
+            known = (each.coordinates for each in self.siblings(tiploc))
+            found = next((each for each in known if each != NO_COORDINATES), NO_COORDINATES)
+            self.station_coordinates[tiploc.crs] = found
+        return self.station_coordinates[tiploc.crs]
