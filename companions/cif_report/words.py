@@ -228,7 +228,8 @@ def stops_between(old: Body, new: Body, between: Sequence[Row], names: Names) ->
     before, after = (
         Counter(names.at(call) for call in body.calls if stops(call)) for body in (old, new)
     )
-    unlike = [names.at(now or was) for was, now in between if stops(now) != stops(was)]
+    rows = [(now or was, stops(now) != stops(was)) for was, now in between]
+    unlike = [names.at(call) for call, is_unlike in rows if call and is_unlike]
     more = [name for name in unlike if after[name] > before[name]]
     fewer = [name for name in unlike if after[name] < before[name]]
     if len(more) + len(fewer) < len(unlike):

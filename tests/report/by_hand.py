@@ -608,15 +608,19 @@ def check_long_names(counts: Counts, maker: Maker) -> None:
     longest = max(map(len, re.findall("N+…?", page.markup)))
     counts.same("a page with long names, the longest", 100, longest)
     counts.same("a page with long names, its trains", len(TRAINS), len(page.trains()))
-    names = "BETA", "GAMMA"
-    long = (Call("ALPHA", 600, 600), *(Call(names[at % 2], 601, 601) for at in range(3000)))
-    long += (Call("DELTA", 660, 660),)
-    train = replace(TRAIN, calls=long)
+    page = maker.page("--title", "&" * 100_000, old, new)
+    size = len(page.markup.encode())
+    counts.test("a long title, the size of the page", size <= 5_000_000, size)
+
+
+def check_long_train(counts: Counts, maker: Maker) -> None:
+    """A train for which there is no room on the page doesn't keep others from it."""
+    between = [Call(("BETA", "GAMMA")[number % 2], 601, 601) for number in range(3000)]
+    train = replace(TRAIN, calls=(USUAL[0], *between, USUAL[-1]))
+    changed = [replace(each, power="BMU") for each in (train, OTHER)]
     sides = [
-        write(maker, f"long-{number}.cif", extract([each, *others]))
-        for number, (each, others) in enumerate(
-            ((train, []), (replace(train, power="BMU"), [replace(OTHER, power="BMU")]))
-        )
+        write(maker, f"long-{number}.cif", extract(trains))
+        for number, trains in enumerate(([train], changed))
     ]
     page = maker.small_page(200_000, *sides)
     size = len(page.markup.encode())
@@ -626,9 +630,6 @@ def check_long_names(counts: Counts, maker: Maker) -> None:
     )
     rest = "1 changed train of 2 isn’t on this page"
     counts.test("a train of 3,000 calls, in words", rest in page.text, page.text[-300:])
-    page = maker.page("--title", "&" * 100_000, old, new)
-    size = len(page.markup.encode())
-    counts.test("a long title, the size of the page", size <= 5_000_000, size)
 
 
 def check_years(counts: Counts, maker: Maker) -> None:
@@ -699,6 +700,7 @@ def check(counts: Counts, maker: Maker) -> None:
     check_counts_in_words(counts, maker)
     check_rows(counts, maker)
     check_long_names(counts, maker)
+    check_long_train(counts, maker)
     check_years(counts, maker)
     check_order(counts, maker)
     check_most(counts, maker)

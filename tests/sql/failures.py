@@ -286,7 +286,7 @@ def check_journals(counts: Counts, maker: Maker, special: Path) -> None:
 
 def check_locked(counts: Counts, maker: Maker, special: Path) -> None:
     """A database that is locked isn't damaged, and not replaced by force."""
-    words = [sys.executable, "-c", LOCKS, maker.folder / "kept.db"]
+    words: List[Word] = [sys.executable, "-c", LOCKS, maker.folder / "kept.db"]
     with subprocess.Popen(words, stdin=subprocess.PIPE, stdout=subprocess.PIPE) as process:
         assert process.stdin is not None and process.stdout is not None
         process.stdout.readline()
@@ -347,7 +347,8 @@ def check_endless(counts: Counts, maker: Maker) -> None:
 def check_escapes(counts: Counts, maker: Maker, special: Path) -> None:
     """What a terminal would act on isn't printed as it is."""
     odd = "\x1b[2J\x9b1m\x07"
-    for words in (odd,), ("-o", "made.db", "--places", odd, special), (special, odd):
+    asked: List[List[Word]] = [[odd], ["-o", "made.db", "--places", odd, special], [special, odd]]
+    for words in asked:
         done = maker.run(*words)
         counts.test(f"{len(words)} words, reported", "?[2J?1m?" in done.stderr, done.stderr)
         counts.test(f"{len(words)} words, escapes", not CONTROL.search(done.stderr), done.stderr)

@@ -238,14 +238,15 @@ def check_strangers(counts: Counts, maker: Maker, special: Path) -> None:
     done = load(maker, "--schema", "theirs", special)
     counts.same("a view in place of the table, status", 3, done.returncode)
     counts.test("a view in place of the table, reported", "damaged" in done.stderr, done.stderr)
-    psql("-c", "UPDATE extract SET extracted_at = '2030-01-01T00:00'")
+    eve = "SELECT rolsuper FROM pg_roles WHERE rolname = 'eve'"
+    counts.same("whether eve is superuser by a view", [("f",)], rows_of(eve))
+    psql("-c", "ALTER ROLE eve NOSUPERUSER; UPDATE extract SET extracted_at = '2030-01-01T00:00'")
     # with `public` among the schemas that are searched, as is usual
     done = psql(schema="public", script=script_of(maker, special))
     counts.test(
         "a function of another user", "later extract, of 2030-01-01T00:00" in done.stderr, done
     )
-    rows = rows_of("SELECT rolsuper FROM pg_roles WHERE rolname = 'eve'")
-    counts.same("whether eve has become superuser", [("f",)], rows)
+    counts.same("whether eve is superuser by a function", [("f",)], rows_of(eve))
     psql("-c", "DROP SCHEMA theirs CASCADE; DROP FUNCTION public.format(text, text, date, date)")
     by_force = load(maker, "--force", special)
     counts.same("special.cif by force", (0, "", ""), ended(by_force))
