@@ -299,26 +299,25 @@ def check_locked(counts: Counts, maker: Maker, special: Path) -> None:
 def check_damaged(counts: Counts, maker: Maker, special: Path) -> None:
     """A table of the extract that isn't as it was made. A view without an end isn't read."""
 
-    def little_memory() -> None:
+    def little_memory_and_time() -> None:
         resource.setrlimit(resource.RLIMIT_AS, (1 << 30, 1 << 30))
+        resource.setrlimit(resource.RLIMIT_CPU, (20, 20))
 
     endless = "WITH RECURSIVE numbers (x) AS (SELECT 1 UNION ALL SELECT x + 1 FROM numbers)"
+    endless += " SELECT '' AS extracted_at, '' AS first_date, '' AS last_date FROM numbers"
     for name, script in (
         ("bytes for the moment", "UPDATE extract SET extracted_at = x'00'"),
         ("a number for a date", "UPDATE extract SET last_date = 20260111.0"),
         ("two rows", "INSERT INTO extract SELECT * FROM extract"),
-        (
-            "an endless view",
-            f"DROP TABLE extract; CREATE VIEW extract AS {endless} "
-            "SELECT '' AS extracted_at, '' AS first_date, '' AS last_date FROM numbers",
-        ),
+        ("an endless view", f"DROP TABLE extract; CREATE VIEW extract AS {endless}"),
+        ("a view of no row", f"DROP TABLE extract; CREATE VIEW extract AS {endless} WHERE x < 0"),
     ):
         maker.run("--force", "-o", "damaged.db", special)
         with closing(sqlite3.connect(maker.folder / "damaged.db")) as connection:
             connection.executescript(script)
         words = ("-o", "damaged.db", special)
         told = "damaged.db is damaged; --force replaces it"
-        refused(counts, maker, name, 3, told, *words, preexec_fn=little_memory)
+        refused(counts, maker, name, 3, told, *words, preexec_fn=little_memory_and_time)
     (maker.folder / "damaged.db").unlink()
 
 
