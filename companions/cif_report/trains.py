@@ -304,9 +304,10 @@ class TrainsPart:
         shown: List[Markup] = []
         for train in group.trains:
             made = self.fitting(train)
-            if made is None:
+            if made is not None:
+                shown.append(made)
+            elif self.left < LEAST_ROOM:
                 break
-            shown.append(made)
         if not shown:
             self.left = room
             return None
@@ -319,7 +320,7 @@ class TrainsPart:
         return fill("more", text=text) if others else Markup()
 
     def groups(self) -> Markup:
-        """As many groups as there is room for. One that is very large leaves room for others."""
+        """As many groups as there is room for. A very large train leaves its room to others."""
         made = []
         for group in groups_of(self.report.comparison.trains, self.most):
             added = self.group(group)

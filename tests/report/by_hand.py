@@ -608,27 +608,25 @@ def check_long_names(counts: Counts, maker: Maker) -> None:
     longest = max(map(len, re.findall("N+…?", page.markup)))
     counts.same("a page with long names, the longest", 100, longest)
     counts.same("a page with long names, its trains", len(TRAINS), len(page.trains()))
-    page = maker.page("--title", "&" * 100_000, old, new)
-    size = len(page.markup.encode())
-    counts.test("a long title, the size of the page", size <= 5_000_000, size)
 
 
 def check_long_train(counts: Counts, maker: Maker) -> None:
-    """A train for which there is no room on the page doesn't keep others from it."""
+    """A train for which there is no room on the page doesn't keep others from it, neither those
+    with the same change nor those with another one."""
     between = [Call(("BETA", "GAMMA")[number % 2], 601, 601) for number in range(3000)]
-    train = replace(TRAIN, calls=(USUAL[0], *between, USUAL[-1]))
-    changed = [replace(each, power="BMU") for each in (train, OTHER)]
+    train = replace(OTHER, uid="A00001", calls=(USUAL[0], *between, USUAL[-1]))
+    trains = [train, replace(OTHER, uid="A00003")]
+    changed = [*(replace(each, power="BMU") for each in trains), replace(OTHER, power="DMU")]
     sides = [
-        write(maker, f"long-{number}.cif", extract(trains))
-        for number, trains in enumerate(([train], changed))
+        write(maker, f"long-{number}.cif", extract(each))
+        for number, each in enumerate((trains, changed))
     ]
     page = maker.small_page(200_000, *sides)
     size = len(page.markup.encode())
     counts.test("a train of 3,000 calls, the size of the page", size <= 200_000, size)
-    counts.same(
-        "a train of 3,000 calls, the others", ["A00002"], [each.uid for each in page.trains()]
-    )
-    rest = "1 changed train of 2 isn’t on this page"
+    uids = [each.uid for each in page.trains()]
+    counts.same("a train of 3,000 calls, the others", ["A00003", "A00002"], uids)
+    rest = "1 changed train of 3 isn’t on this page"
     counts.test("a train of 3,000 calls, in words", rest in page.text, page.text[-300:])
 
 

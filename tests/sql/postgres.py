@@ -234,7 +234,7 @@ def check_strangers(counts: Counts, maker: Maker, special: Path) -> None:
     counts.test(
         "a schema that another user owns, reported", "of another user" in done.stderr, done.stderr
     )
-    psql("-c", "ALTER SCHEMA theirs OWNER TO tests")
+    psql("-c", "ALTER SCHEMA theirs OWNER TO tests; ALTER VIEW theirs.extract OWNER TO tests")
     done = load(maker, "--schema", "theirs", special)
     counts.same("a view in place of the table, status", 3, done.returncode)
     counts.test("a view in place of the table, reported", "damaged" in done.stderr, done.stderr)
