@@ -615,8 +615,10 @@ def check_long_train(counts: Counts, maker: Maker) -> None:
     with the same change nor those with another one."""
     between = [Call(("BETA", "GAMMA")[number % 2], 601, 601) for number in range(3000)]
     train = replace(OTHER, uid="A00001", calls=(USUAL[0], *between, USUAL[-1]))
-    trains = [train, replace(OTHER, uid="A00003")]
-    changed = [*(replace(each, power="BMU") for each in trains), replace(OTHER, power="DMU")]
+    trains = [replace(train, uid="A00000"), train, replace(OTHER, uid="A00003")]
+    # two have the same change, and two have others
+    changed = [replace(each, power=power) for each, power in zip(trains, ("HST", "BMU", "BMU"))]
+    changed.append(replace(OTHER, power="DMU"))
     sides = [
         write(maker, f"long-{number}.cif", extract(each))
         for number, each in enumerate((trains, changed))
@@ -626,7 +628,7 @@ def check_long_train(counts: Counts, maker: Maker) -> None:
     counts.test("a train of 3,000 calls, the size of the page", size <= 200_000, size)
     uids = [each.uid for each in page.trains()]
     counts.same("a train of 3,000 calls, the others", ["A00003", "A00002"], uids)
-    rest = "1 changed train of 3 isn’t on this page"
+    rest = "2 changed trains of 4 aren’t on this page"
     counts.test("a train of 3,000 calls, in words", rest in page.text, page.text[-300:])
 
 
