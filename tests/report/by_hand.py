@@ -510,6 +510,7 @@ def check_reversal(counts: Counts, maker: Maker) -> None:
             calls[:1] + calls[2:3] + calls[4:],
             "No longer calls at Beta",
         ),
+        ("is there once more", calls[:1] + calls[2:], calls, "Calls more often at Beta"),
         ("is there later", calls[:3] + calls[4:], calls[:1] + calls[2:], "Calls in another order"),
     ):
         sides = [

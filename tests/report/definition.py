@@ -112,13 +112,18 @@ def public(row: Row) -> Tuple[str, ...]:
 
 def pairs_of(old: Body, new: Body) -> List[Tuple[Row, Row]]:
     """The calls at places where both call, or both pass."""
-    keys = [key for key, _ in numbered(old.calls)]
-    found, done = [], 0
-    for key, row in numbered(new.calls):
+    before, after = list(old.calls), list(new.calls)
+    found = []
+    # from the start, and then from the end, as long as both are at the same places
+    for end in 0, -1:
+        while before and after and before[end]["location"] == after[end]["location"]:
+            found.append((before.pop(end), after.pop(end)))
+    keys, done = [key for key, _ in numbered(before)], 0
+    for key, row in numbered(after):
         # those whose order is another one stand alone
         if key in keys[done:]:
             done = keys.index(key) + 1
-            found.append((old.calls[done - 1], row))
+            found.append((before[done - 1], row))
     return [(was, now) for was, now in found if bool(was["pass"]) == bool(now["pass"])]
 
 
