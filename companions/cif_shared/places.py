@@ -80,6 +80,13 @@ class Tiploc:
     coordinates: Coordinates
 
 
+class Station(NamedTuple):
+    """The name and the coordinates of a station."""
+
+    name: str
+    coordinates: Coordinates
+
+
 class Places:
     """All TIPLOCs by their names. A station is made of those with one CRS code."""
 
@@ -87,9 +94,8 @@ class Places:
         self.given = given
         self.tiplocs: Dict[str, Tiploc] = {}
         self.of_station: Dict[str, List[Tiploc]] = {}
-        # of each CRS code, once it is asked for, since a station may have very many TIPLOCs
-        self.station_names: Dict[str, str] = {}
-        self.station_coordinates: Dict[str, Coordinates] = {}
+        # those that were asked for, by their CRS codes
+        self.stations: Dict[str, Station] = {}
         for row in rows:
             name = row.tiploc.strip()
             if name not in self.tiplocs:
@@ -121,22 +127,24 @@ class Places:
     def station_name(self, name: str) -> str:
         """The name of the station of a TIPLOC: the first that the user gives one of its TIPLOCs, or
         else the description of the first one."""
-        tiploc = self.tiploc(name)
-        if tiploc.crs not in self.of_station:
-            return tiploc.given_name or tiploc.description
-        if tiploc.crs not in self.station_names:
-            siblings = self.siblings(tiploc)
-            given = (sibling.given_name for sibling in siblings if sibling.given_name)
-            self.station_names[tiploc.crs] = next(given, siblings[0].description)
-        return self.station_names[tiploc.crs]
+        return self.shown(self.tiploc(name)).name
 
     def coordinates(self, name: str) -> Coordinates:
         """Those of a TIPLOC, or else of the first one of its station that has some."""
         tiploc = self.tiploc(name)
-        if tiploc.coordinates != NO_COORDINATES or tiploc.crs not in self.of_station:
+        if tiploc.coordinates != NO_COORDINATES:
             return tiploc.coordinates
-        if tiploc.crs not in self.station_coordinates:
-            known = (each.coordinates for each in self.siblings(tiploc))
-            found = next((each for each in known if each != NO_COORDINATES), NO_COORDINATES)
-            self.station_coordinates[tiploc.crs] = found
-        return self.station_coordinates[tiploc.crs]
+        return self.shown(tiploc).coordinates
+
+    def shown(self, tiploc: Tiploc) -> Station:
+        """The station of a TIPLOC, which is looked for among all of its TIPLOCs once."""
+        found = self.stations.get(tiploc.crs)
+        if found is None:
+            siblings = self.siblings(tiploc)
+            names = (each.given_name for each in siblings if each.given_name)
+            known = (each.coordinates for each in siblings if each.coordinates != NO_COORDINATES)
+            name = next(names, siblings[0].description)
+            found = Station(name, next(known, NO_COORDINATES))
+            if tiploc.crs:
+                self.stations[tiploc.crs] = found
+        return found
