@@ -173,7 +173,7 @@ def chart(code: str, name: str, series: Series, calendar: Calendar, small: bool)
     zero = round(up * scale) if up + down else HEIGHT // 2
     near_edge = NEAR_EDGE_OF_SMALL if small else NEAR_EDGE
     labels = [
-        label(text, place_of(number + 0.5, count), series.differences[number] > 0, near_edge)
+        label(text, place_of(number + 0.5, count), text.startswith("+"), near_edge)
         for number, text in extremes(series, calendar)
     ]
     return fill(

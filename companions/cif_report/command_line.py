@@ -28,6 +28,8 @@ from .words import Names
 PROGRAM = "cif-report"
 DEFAULT_OUTPUT = "REPORT.html"
 DEFAULT_MOST = 200
+# Longer names of places and operators are shortened. CIF has at most 26 characters.
+LONGEST_NAME = 100
 
 ABOUT = """\
 Shows on one HTML page how two CIF timetable extracts differ on the dates that
@@ -91,6 +93,11 @@ def check_rows(place: Path) -> None:
             raise Refused(f"{place} isn't a CSV file of {PROGRAM}, so it isn't replaced")
 
 
+def shortened(name: str) -> str:
+    """A name as it is shown, since it stands all over the page."""
+    return name if len(name) <= LONGEST_NAME else f"{name[:LONGEST_NAME - 1]}…"
+
+
 class Outputs:
     """The places of the page and of the CSV file. Neither may be that of an input."""
 
@@ -109,9 +116,9 @@ def names_of(asked: argparse.Namespace, pair: Pair) -> Names:
     given, operators = read_file(PLACES, asked.places), read_operators(asked.operators)
     places = Places([*pair.new.tiplocs, *pair.old.tiplocs], given)
     return Names(
-        places.station_name,
+        lambda tiploc: shortened(places.station_name(tiploc)),
         lambda tiploc: places.tiploc(tiploc).crs,
-        lambda code: operator_name(code, operators),
+        lambda code: shortened(operator_name(code, operators)),
     )
 
 

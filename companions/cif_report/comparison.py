@@ -1,8 +1,9 @@
 """All changes between two extracts."""
 from __future__ import annotations
 
+from collections import deque
 from itertools import chain
-from typing import Dict, Iterator, List, NamedTuple, Sequence, Tuple
+from typing import Deque, Dict, Iterator, List, NamedTuple, Sequence, Tuple
 
 from cif_shared.cif import Cif
 from cif_shared.dates import Dates, Window, count_of
@@ -10,7 +11,7 @@ from cif_shared.progress import Progress
 
 from .associations import AssociationChange, association_changes
 from .days import DateCounts
-from .differences import Copy, Part, Place, Record, Said, Sides, Terms
+from .differences import ByDates, Copy, Part, Place, Record, Said, Sides, Terms
 from .differences import by_train, digest_of_journey, records_of
 from .journeys import Body, body_of, text_of
 from .locations import LocationChange, location_changes
@@ -84,9 +85,23 @@ class Comparison(NamedTuple):
 class Alone(NamedTuple):
     """A body on dates on which the other extract has none."""
 
-    journey: bytes
     dates: Dates
     place: Place
+
+
+# Bodies by their journeys: those of one journey differ in other data.
+Journeys = Dict[bytes, List[Alone]]
+
+
+class Altered:
+    """The dates with one difference, and the places of the bodies before and after."""
+
+    __slots__ = ("dates", "old", "new")
+
+    def __init__(self) -> None:
+        self.dates: Dates = 0
+        self.old: List[Place] = []
+        self.new: List[Place] = []
 
 
 class Draft:
@@ -96,17 +111,16 @@ class Draft:
 
     def __init__(self, face: Face) -> None:
         self.face = face
-        self.altered: Dict[Tuple[Phrase, ...], Change] = {}
-        self.lost: List[Alone] = []
-        self.added: List[Alone] = []
+        self.altered: Dict[Tuple[Phrase, ...], Altered] = {}
+        self.lost: Journeys = {}
+        self.added: Journeys = {}
 
-    def alter(self, change: Change) -> None:
+    def alter(self, phrases: Tuple[Phrase, ...], dates: Dates, old: Place, new: Place) -> None:
         """Adds a change. Dates with the same difference are one."""
-        known = self.altered.get(change.phrases)
-        if known:
-            dates = known.dates | change.dates
-            change = Change(change.phrases, dates, known.old + change.old, known.new + change.new)
-        self.altered[change.phrases] = change
+        altered = self.altered.setdefault(phrases, Altered())
+        altered.dates |= dates
+        altered.old.append(old)
+        altered.new.append(new)
 
 
 def face_of(body: Body) -> Face:
@@ -145,37 +159,43 @@ class Reading:
                 [old], [new] = part.old, part.new
                 found = phrases_of(read(old), read(new), self.names)
                 phrases = self.phrases.setdefault(found, found)
-                draft.alter(Change(phrases, part.dates, (old.place,), (new.place,)))
+                draft.alter(phrases, part.dates, old.place, new.place)
             else:
                 self.add_alone(draft, part)
 
     def add_alone(self, draft: Draft, part: Part) -> None:
         [said] = part.old or part.new
-        alone = Alone(digest_of_journey(said.body), part.dates, said.place)
-        (draft.lost if part.old else draft.added).append(alone)
+        journeys = draft.lost if part.old else draft.added
+        alone = Alone(part.dates, said.place)
+        journeys.setdefault(digest_of_journey(said.body), []).append(alone)
 
     def match(self, copy: Copy) -> None:
         """What one train has lost and another got, with the same journey and dates, is one train
-        under another UID."""
-        added: Dict[Tuple[bytes, Dates], List[Tuple[bytes, Alone]]] = {}
+        under another UID, whatever other data differ on which of the dates."""
+        added: Dict[Tuple[bytes, Dates], Deque[bytes]] = {}
         for uid, draft in self.drafts.items():
-            for alone in draft.added:
-                added.setdefault((alone.journey, alone.dates), []).append((uid, alone))
+            for journey, bodies in draft.added.items():
+                added.setdefault((journey, all_dates(bodies)), deque()).append(uid)
         for uid, draft in self.drafts.items():
-            for lost in list(draft.lost):
-                found = added.get((lost.journey, lost.dates))
+            for journey, bodies in list(draft.lost.items()):
+                found = added.get((journey, all_dates(bodies)))
                 if found:
-                    other, got = found.pop(0)
-                    draft.lost.remove(lost)
-                    self.drafts[other].added.remove(got)
-                    draft.alter(self.renumbered(uid, other, lost, got, copy))
+                    other = found.popleft()
+                    lost, got = draft.lost.pop(journey), self.drafts[other].added.pop(journey)
+                    own = f"UID {other.decode().strip()} for {uid.decode().strip()}"
+                    self.renumber(draft, own, lost, got, copy)
 
-    def renumbered(self, uid: bytes, other: bytes, lost: Alone, got: Alone, copy: Copy) -> Change:
-        own = f"UID {other.decode().strip()} for {uid.decode().strip()}"
-        old, new = (body_of(copy.text(each.place)) for each in (lost, got))
-        more = phrases_of(old, new, self.names) if old != new else ()
-        phrases = (Phrase(NUMBERS, "renumbered", own), *more)
-        return Change(phrases, lost.dates, (lost.place,), (got.place,))
+    def renumber(
+        self, draft: Draft, own: str, lost: List[Alone], got: List[Alone], copy: Copy
+    ) -> None:
+        """Adds what is different under the other UID, by the bodies of each date."""
+        after = ByDates(got)
+        for was in lost:
+            for now in after.on_any(was.dates):
+                old, new = (body_of(copy.text(each.place)) for each in (was, now))
+                more = phrases_of(old, new, self.names) if old != new else ()
+                phrases = (Phrase(NUMBERS, "renumbered", own), *more)
+                draft.alter(phrases, was.dates & now.dates, was.place, now.place)
 
     def trains(self, old: Schedules, new: Schedules) -> List[Train]:
         return [
@@ -187,15 +207,20 @@ class Reading:
 
 def changes_of(uid: bytes, draft: Draft, old: Schedules, new: Schedules) -> Iterator[Change]:
     """The changes of a train: first the dates on which it no longer runs, or runs also."""
-    if draft.lost:
+    lost, added = (list(chain(*side.values())) for side in (draft.lost, draft.added))
+    if lost:
         text = "cancelled" if uid in new.found else GONE_FOR_GOOD
-        places = tuple(alone.place for alone in draft.lost)
-        yield Change((Phrase(CANCELLED, text),), all_dates(draft.lost), places, ())
-    if draft.added:
+        places = tuple(alone.place for alone in lost)
+        yield Change((Phrase(CANCELLED, text),), all_dates(lost), places, ())
+    if added:
         text = "runs also" if uid in old.found else "new train"
-        places = tuple(alone.place for alone in draft.added)
-        yield Change((Phrase(RUNS, text),), all_dates(draft.added), (), places)
-    yield from sorted(draft.altered.values(), key=lambda change: -count_of(change.dates))
+        places = tuple(alone.place for alone in added)
+        yield Change((Phrase(RUNS, text),), all_dates(added), (), places)
+    changes = [
+        Change(phrases, altered.dates, tuple(altered.old), tuple(altered.new))
+        for phrases, altered in draft.altered.items()
+    ]
+    yield from sorted(changes, key=lambda change: -count_of(change.dates))
 
 
 def all_dates(parts: Sequence[Alone]) -> Dates:

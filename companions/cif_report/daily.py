@@ -49,9 +49,10 @@ def operator_charts(report: Report) -> Markup:
     same: List[str] = []
     left_out: List[str] = []
     size = 0
-    for code in sorted(all_series, key=lambda code: -amount_of(all_series[code])):
+    amounts = {code: amount_of(series) for code, series in all_series.items()}
+    for code in sorted(all_series, key=lambda code: -amounts[code]):
         name = report.names.operator(code)
-        if not amount_of(all_series[code]):
+        if not amounts[code]:
             same.append(name)
             continue
         made = chart(code, name, all_series[code], report.calendar, small=True)
@@ -70,7 +71,7 @@ def operator_charts(report: Report) -> Markup:
 
 def number_row(report: Report, number: int, total: Series) -> Markup:
     day = report.comparison.window.days[number]
-    difference = total.differences[number]
+    difference = total.after[number] - total.before[number]
     return fill(
         "number",
         day=report.calendar.day(day),
@@ -105,25 +106,25 @@ def days_section(report: Report) -> Markup:
 
 
 def level_of(count: int, most: int) -> int:
-    """From 1 for few trains to LEVELS for the most; 0 for none."""
-    return -(-count * LEVELS // most) if count else 0
+    """From 1 for few trains to LEVELS for the most."""
+    return -(-count * LEVELS // most)
 
 
 def months_of(days: Sequence[date]) -> Iterator[Tuple[int, int]]:
     yield from dict.fromkeys((day.year, day.month) for day in days)
 
 
-def cell_of(report: Report, day: date) -> Markup:
+def cell_of(report: Report, day: date, most: int) -> Markup:
+    """The cell of a date, where so many trains differ at most on one."""
     number = report.comparison.window.numbers.get(day.isoformat().encode())
     if number is None:
         return NO_CELL
     count = report.numbers.of_date[number]
-    level = level_of(count, max(report.numbers.of_date))
     if not count:
         return fill("quiet_date", day=day.day)
     return fill(
         "date",
-        level=level,
+        level=level_of(count, most),
         day=day.day,
         date=day.isoformat(),
         count=f"{count:,}",
@@ -131,13 +132,13 @@ def cell_of(report: Report, day: date) -> Markup:
     )
 
 
-def month_of(report: Report, year: int, month: int) -> Markup:
+def month_of(report: Report, year: int, month: int, most: int) -> Markup:
     first = date(year, month, 1)
     day = first - timedelta(days=first.weekday())
     weeks = []
     while (day.year, day.month) <= (year, month):
         week = [day + timedelta(days=number) for number in range(7)]
-        cells = [cell_of(report, each) if each.month == month else NO_CELL for each in week]
+        cells = [cell_of(report, each, most) if each.month == month else NO_CELL for each in week]
         if any(cell != NO_CELL for cell in cells):
             weeks.append(Markup(f"<tr>{joined(cells)}</tr>"))
         day += timedelta(days=7)
@@ -157,11 +158,12 @@ def calendar_section(report: Report) -> Markup:
         return Markup()
     months = list(months_of(days if len(days) <= 31 * 12 else differing))
     most = max(report.numbers.of_date)
-    day = days[report.numbers.of_date.index(most)]
-    note = f"How many trains differ on each date: at most {most:,}, on {report.calendar.day(day)}."
+    dates = sum(1 << number for number, count in enumerate(report.numbers.of_date) if count == most)
+    when = report.calendar.words(dates)
+    note = f"How many trains differ on each date: at most {most:,}, {when}."
     if len(days) > 31 * 12:
         note += " Months without a difference are left out."
     if len(months) > MOST_MONTHS:
         note += f" These are the first {MOST_MONTHS} months."
-    made = [month_of(report, year, month) for year, month in months[:MOST_MONTHS]]
+    made = [month_of(report, year, month, most) for year, month in months[:MOST_MONTHS]]
     return fill("calendar", note=note, months=lines(made))

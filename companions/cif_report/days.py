@@ -1,6 +1,7 @@
 """Dates as people write them, and as weeks."""
 from __future__ import annotations
 
+import re
 from datetime import date, timedelta
 from typing import Iterator, List, NamedTuple, Optional, Sequence
 
@@ -10,6 +11,9 @@ MONTHS = "January February March April May June July August September October No
 MONTH_NAMES = MONTHS.split()
 DAY_NAMES = "Monday Tuesday Wednesday Thursday Friday Saturday Sunday".split()
 ALL_DAYS = (1 << 7) - 1
+NO_DAYS = "0" * 7
+# Weeks that follow one another with the same days.
+ALIKE_WEEKS = re.compile(r"([01]{7})\1*")
 # So many dates are listed.
 MOST_LISTED = 4
 # So many exceptions are, if there are that many dates for each.
@@ -22,6 +26,11 @@ def listed(words: Sequence[str], last: str = "and") -> str:
     if len(words) < 2:
         return "".join(words)
     return f"{', '.join(words[:-1])} {last} {words[-1]}"
+
+
+def signs_of(dates: Dates) -> str:
+    """A sign for each date, `1` for those of the set, up to the last of these."""
+    return f"{dates:b}"[::-1] if dates else ""
 
 
 def short_weekday(day: date) -> str:
@@ -75,17 +84,17 @@ class Calendar:
 
     def words(self, dates: Dates) -> str:
         """A set of dates, such as `on Mondays to Fridays from 1 to 12 June`."""
-        days = [self.window.days[number] for number in numbers_of(dates)]
-        count = len(days)
-        first, last = days[0], days[-1]
+        count = count_of(dates)
+        start, end = (dates & -dates).bit_length() - 1, dates.bit_length() - 1
+        first, last = self.window.days[start], self.window.days[end]
         if 2 < count < 7 and (last - first).days == count - 1:
             since = f"{short_weekday(first)} {first.day}{self.month_unlike(first, last)}"
             return f"from {since} to {self.day(last)}"
         if count <= MOST_LISTED:
+            days = [self.window.days[number] for number in numbers_of(dates)]
             return f"on {self.listed_days(days, True)}"
-        weekdays = sum(1 << day for day in {day.weekday() for day in days})
+        weekdays = sum(1 << day for day in range(7) if dates & self.window.weekdays[day])
         possible = self.of_weekdays(weekdays)
-        start, end = (self.window.numbers[day.isoformat().encode()] for day in (first, last))
         lacking = possible & between(start, end) & ~dates
         exceptions = count_of(lacking)
         if exceptions > MOST_EXCEPTIONS or count < exceptions * DATES_FOR_EXCEPTION:
@@ -122,21 +131,14 @@ class Calendar:
 
     def joined(self, dates: Dates) -> Iterator[Span]:
         offset = self.window.days[0].weekday()
-        weeks = dates << offset
         monday = self.window.days[0] - timedelta(days=offset)
-        number = 0
-        while weeks:
-            empty = ((weeks & -weeks).bit_length() - 1) // 7
-            weeks >>= 7 * empty
-            number += empty
-            mask = weeks & ALL_DAYS
-            start = number
-            while weeks & ALL_DAYS == mask:
-                weeks >>= 7
-                number += 1
-            first = monday + timedelta(days=7 * start + (mask & -mask).bit_length() - 1)
-            last = monday + timedelta(days=7 * (number - 1) + mask.bit_length() - 1)
-            yield Span(first, last, "".join(str(mask >> day & 1) for day in range(7)))
+        text = signs_of(dates << offset)
+        for weeks in ALIKE_WEEKS.finditer(text + "0" * (-len(text) % 7)):
+            days = weeks[1]
+            if days != NO_DAYS:
+                first = monday + timedelta(days=weeks.start() + days.index("1"))
+                last = monday + timedelta(days=weeks.end() - 7 + days.rindex("1"))
+                yield Span(first, last, days)
 
 
 def weekday_words(weekdays: int) -> str:
@@ -166,7 +168,9 @@ class DateCounts:
             self.digits.append(dates)
 
     def counts(self, length: int) -> List[int]:
-        return [
-            sum((digit >> number & 1) << at for at, digit in enumerate(self.digits))
-            for number in range(length)
-        ]
+        found = [0] * length
+        for at, digit in enumerate(self.digits):
+            for number, sign in enumerate(signs_of(digit)):
+                if sign == "1":
+                    found[number] += 1 << at
+        return found

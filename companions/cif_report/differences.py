@@ -4,7 +4,7 @@ from __future__ import annotations
 import os
 import re
 from hashlib import blake2b
-from typing import IO, Dict, Iterator, List, NamedTuple, Tuple
+from typing import IO, Dict, Generic, Iterator, List, NamedTuple, Protocol, Sequence, Tuple, TypeVar
 
 from cif_shared.dates import Dates, Window
 from cif_shared.files import BLOCK
@@ -101,6 +101,38 @@ class Part(NamedTuple):
     dates: Dates
 
 
+class Dated(Protocol):
+    """What applies on some dates."""
+
+    @property
+    def dates(self) -> Dates:
+        ...
+
+
+Item = TypeVar("Item", bound=Dated)
+
+
+class ByDates(Generic[Item]):
+    """Items in a binary tree, of which each half has the dates of all its items. So those on some
+    dates are found without a look at each of the others."""
+
+    def __init__(self, items: Sequence[Item]) -> None:
+        self.items = items
+        middle = len(items) // 2
+        self.halves = [ByDates(items[:middle]), ByDates(items[middle:])] if middle else []
+        self.dates: Dates = items[0].dates if len(items) == 1 else 0
+        for half in self.halves:
+            self.dates |= half.dates
+
+    def on_any(self, dates: Dates) -> Iterator[Item]:
+        """The items with one of these dates, in their order."""
+        if dates & self.dates:
+            if not self.halves:
+                yield self.items[0]
+            for half in self.halves:
+                yield from half.on_any(dates)
+
+
 class Sides:
     """What each of the extracts alone says of a train or an association."""
 
@@ -115,19 +147,15 @@ class Sides:
 
     def parts(self) -> List[Part]:
         """Each date is in one part: the one with the bodies that run on it."""
-        old, new = (list(self.said[side].values()) for side in (OLD, NEW))
-        all_old, all_new = dates_of(old), dates_of(new)
-        found = [Part((was,), (), was.dates & ~all_new) for was in old]
-        found += [Part((was,), (now,), was.dates & now.dates) for was in old for now in new]
-        found += [Part((), (now,), now.dates & ~all_old) for now in new]
+        old, new = (ByDates(list(self.said[side].values())) for side in (OLD, NEW))
+        found = [Part((was,), (), was.dates & ~new.dates) for was in old.items]
+        found += [
+            Part((was,), (now,), was.dates & now.dates)
+            for was in old.items
+            for now in new.on_any(was.dates)
+        ]
+        found += [Part((), (now,), now.dates & ~old.dates) for now in new.items]
         return [part for part in found if part.dates]
-
-
-def dates_of(said: List[Said]) -> Dates:
-    dates = 0
-    for each in said:
-        dates |= each.dates
-    return dates
 
 
 def by_train(records: Iterator[Record], terms: Terms) -> Iterator[Tuple[bytes, Sides]]:

@@ -4,9 +4,10 @@ from __future__ import annotations
 
 from collections import Counter
 from functools import lru_cache
+from itertools import takewhile
 from struct import Struct
 from typing import Counter as CounterOf
-from typing import Dict, Iterator, List, NamedTuple, Optional, Sequence, Tuple
+from typing import Dict, Iterable, Iterator, List, NamedTuple, Optional, Sequence, Tuple
 
 # Each line has a mark and a space before its columns, such as `< LO`.
 MARK = 2
@@ -143,11 +144,27 @@ def numbered(calls: Sequence[Call]) -> Iterator[Tuple[bytes, int]]:
         seen[call.location] += 1
 
 
+def alike(old: Iterable[Call], new: Iterable[Call]) -> int:
+    """How many calls of two journeys are at the same places, before the first that aren't."""
+    pairs = zip(old, new)
+    return sum(1 for _ in takewhile(lambda pair: pair[0].location == pair[1].location, pairs))
+
+
 def rows_of(old: Sequence[Call], new: Sequence[Call]) -> List[Row]:
     """The calls of both journeys side by side, in their order. Calls belong together if they are at
-    one place: there the first with the first, the second with the second."""
-    if [call.location for call in old] == [call.location for call in new]:
-        return list(zip(old, new))
+    one place: from the start and from the end as long as both go the same way, and between these
+    the first there with the first, the second with the second."""
+    first = alike(old, new)
+    last = alike(reversed(old[first:]), reversed(new[first:]))
+    ends = len(old) - last, len(new) - last
+    return [
+        *zip(old[:first], new[:first]),
+        *rows_between(old[first : ends[0]], new[first : ends[1]]),
+        *zip(old[ends[0] :], new[ends[1] :]),
+    ]
+
+
+def rows_between(old: Sequence[Call], new: Sequence[Call]) -> List[Row]:
     places: Dict[Tuple[bytes, int], int] = {key: at for at, key in enumerate(numbered(old))}
     rows: List[Row] = []
     done = 0

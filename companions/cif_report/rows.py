@@ -9,6 +9,10 @@ from .days import Calendar
 from .words import Names
 
 
+# What a formula begins with in a spreadsheet.
+FORMULA = ("=", "+", "-", "@")
+
+
 class Row(NamedTuple):
     """A change of a train, an association or a place. A train has a row for each kind of change,
     and for each span of weeks with the same days."""
@@ -78,11 +82,16 @@ def rows_of(comparison: Comparison, names: Names) -> Iterator[Row]:
             location.kind,
             location.text,
             location=location.tiploc,
-            location_name=location.name,
+            location_name=names.place(location.tiploc),
         )
+
+
+def plain(cell: str) -> str:
+    """A cell that no spreadsheet takes for a formula."""
+    return f"'{cell}" if cell.startswith(FORMULA) else cell
 
 
 def write_rows(file: IO[str], rows: Iterator[Row]) -> None:
     writer = csv.writer(file, lineterminator="\n")
     writer.writerow(Row._fields)
-    writer.writerows(rows)
+    writer.writerows(map(plain, row) for row in rows)

@@ -62,10 +62,11 @@ def lead(report: Report) -> str:
 
 def in_all(before: int, after: int) -> str:
     """How many trains there are."""
-    if before == after:
-        return f"There are {number_word(after, 'train')} in all, as many as before."
+    verb = "is" if after == 1 else "are"
     more = f"{abs(after - before):,} {'more' if after > before else 'fewer'} than before"
-    return f"There are {number_word(after, 'train')} in all, {more}."
+    if before == after:
+        more = "as many as before"
+    return f"There {verb} {number_word(after, 'train')} in all, {more}."
 
 
 def warning(report: Report) -> Markup:

@@ -2,13 +2,15 @@
 from __future__ import annotations
 
 import json
+import re
 from datetime import date, timedelta
-from itertools import groupby
+from itertools import groupby, islice
 from typing import Dict, Iterator, List, NamedTuple, Optional, Sequence, Tuple
 
-from cif_shared.dates import Dates, numbers_of
+from cif_shared.dates import Dates
 
 from .comparison import Change, Train
+from .days import signs_of
 from .differences import Place
 from .groups import Group, groups_of
 from .journeys import Body, Call, body_of, rows_of, text_of
@@ -31,6 +33,8 @@ from .words import (
 # So many weeks of a change are shown, and the calls of so many changes of a train.
 MOST_WEEKS = 8
 MOST_CALLS = 3
+# With less room than this the page is full.
+LEAST_ROOM = 100_000
 
 KIND_NAMES = {
     RUNS: "Runs on new dates",
@@ -63,13 +67,17 @@ def symbol_of(change: Change) -> str:
 def weeks_of(report: Report, changes: Sequence[Change]) -> List[Week]:
     """The weeks in which something is different."""
     days = report.comparison.window.days
-    found: Dict[date, List[str]] = {}
+    offset = days[0].weekday()
+    first_monday = days[0] - timedelta(days=offset)
+    symbols: List[str] = []
     for change in changes:
-        for number in numbers_of(change.dates):
-            day = days[number]
-            monday = day - timedelta(days=day.weekday())
-            found.setdefault(monday, [" "] * 7)[day.weekday()] = symbol_of(change)
-    return [Week(monday, "".join(found[monday])) for monday in sorted(found)]
+        signs = signs_of(change.dates << offset)
+        symbols += " " * (len(signs) + 7 - len(symbols))
+        for found in re.finditer("1+", signs):
+            symbols[found.start() : found.end()] = symbol_of(change) * len(found[0])
+    text = "".join(symbols)
+    weeks = ((at, text[at : at + 7].ljust(7)) for at in range(0, len(text), 7))
+    return [Week(first_monday + timedelta(days=at), days) for at, days in weeks if days.strip()]
 
 
 def repeated(weeks: Sequence[Week]) -> Iterator[List[Week]]:
@@ -104,12 +112,8 @@ def mark_class(symbol: str) -> str:
 
 def ranges(dates: Dates) -> str:
     """The numbers of dates, such as `3-7 10`, as the script reads them."""
-    parts = []
-    for _, group in groupby(enumerate(numbers_of(dates)), key=lambda item: item[1] - item[0]):
-        numbers = [number for _, number in group]
-        first, last = numbers[0], numbers[-1]
-        parts.append(f"{first}-{last}" if last > first else str(first))
-    return " ".join(parts)
+    spans = ((found.start(), found.end() - 1) for found in re.finditer("1+", signs_of(dates)))
+    return " ".join(f"{first}-{last}" if last > first else str(first) for first, last in spans)
 
 
 def changes_for_script(train: Train) -> str:
@@ -207,6 +211,11 @@ class Places:
         self.numbers: Dict[str, int] = {}
         self.rows: List[str] = []
 
+    def keep(self, count: int) -> None:
+        """Forgets all places but the first ones."""
+        self.numbers = dict(islice(self.numbers.items(), count))
+        del self.rows[count:]
+
     def number(self, tiploc: str) -> str:
         number = self.numbers.setdefault(tiploc, len(self.numbers))
         if number == len(self.rows):
@@ -236,7 +245,8 @@ class TrainsPart:
         self.left = most_bytes
         self.places = Places(report.names)
         self.shown = 0
-        self.operators: Dict[str, None] = {}
+        # those of the trains, each with its option of the filter
+        self.operators: Dict[str, Markup] = {}
 
     def train(self, train: Train) -> Markup:
         names = self.report.names
@@ -246,7 +256,10 @@ class TrainsPart:
             for place in dict.fromkeys((*change.old, *change.new))
         ]
         operators = list(dict.fromkeys(body.operator or NO_OPERATOR for body in bodies))
-        self.operators.update(dict.fromkeys(operators))
+        for code in operators:
+            if code not in self.operators:
+                self.operators[code] = self.option(code)
+                self.left -= size_of([self.operators[code]])
         calls = [calls_of(self.report, train, change) for change in train.changes[:MOST_CALLS]]
         own = [phrase.own for change in train.changes for phrase in change.phrases if phrase.own]
         face = train.face
@@ -264,47 +277,70 @@ class TrainsPart:
             calls=joined(calls),
         )
 
-    def group(self, group: Group) -> Markup:
-        first = group.trains[0]
-        shown: List[Markup] = []
-        for train in group.trains:
-            places = len(self.places.rows)
-            made = self.train(train)
-            self.left -= size_of([made, *self.places.rows[places:]])
-            if self.left < 0 and shown:
-                break
-            shown.append(made)
-        others = group.others + len(group.trains) - len(shown)
-        text = f"and {number_word(others, 'other train')} with this change" if others else ""
-        self.shown += len(shown)
-        made = fill(
-            "group",
-            weekdays=fill("weekdays"),
-            changes=changes_for_script(first),
-            words=lines(change_words(self.report, change) for change in first.changes),
-            weeks=week_rows(self.report, first.changes),
-            trains=lines(shown),
-            more=fill("more", text=text) if text else "",
-        )
-        self.left -= size_of([made]) - size_of(shown)
+    def fitting(self, train: Train) -> Optional[Markup]:
+        """A train, or none if there is no room for it. Then nothing is kept of it."""
+        places, operators = len(self.places.rows), len(self.operators)
+        made = self.train(train)
+        options = islice(self.operators.values(), operators, None)
+        size = size_of([made, *self.places.rows[places:], *options])
+        if size > self.left:
+            self.places.keep(places)
+            self.operators = dict(islice(self.operators.items(), operators))
+            return None
+        self.left -= size
         return made
 
+    def group(self, group: Group) -> Optional[Markup]:
+        """A group, or none if there is no room for it with one train."""
+        first, room = group.trains[0], self.left
+        values = {
+            "weekdays": fill("weekdays"),
+            "changes": changes_for_script(first),
+            "words": lines(change_words(self.report, change) for change in first.changes),
+            "weeks": week_rows(self.report, first.changes),
+        }
+        more = self.more(group.others + len(group.trains))
+        self.left -= size_of([fill("group", **values, trains="", more=more)])
+        shown: List[Markup] = []
+        for train in group.trains:
+            made = self.fitting(train)
+            if made is not None:
+                shown.append(made)
+            elif self.left < LEAST_ROOM:
+                break
+        if not shown:
+            self.left = room
+            return None
+        self.shown += len(shown)
+        more = self.more(group.others + len(group.trains) - len(shown))
+        return fill("group", **values, trains=lines(shown), more=more)
+
+    def more(self, others: int) -> Markup:
+        text = f"and {number_word(others, 'other train')} with this change"
+        return fill("more", text=text) if others else Markup()
+
     def groups(self) -> Markup:
+        """As many groups as there is room for. A very large train leaves its room to others."""
         made = []
         for group in groups_of(self.report.comparison.trains, self.most):
-            if self.left < 0:
+            added = self.group(group)
+            if added is not None:
+                made.append(added)
+            elif self.left < LEAST_ROOM:
                 break
-            made.append(self.group(group))
         return lines(made)
+
+    def operator_name(self, code: str) -> str:
+        return "No operator" if code == NO_OPERATOR else self.report.names.operator(code)
+
+    def option(self, code: str) -> Markup:
+        return fill("option", value=code, name=self.operator_name(code))
 
     def options(self) -> Tuple[Markup, Markup]:
         """Those of the filter: operators and kinds."""
-        names = {
-            code: "No operator" if code == NO_OPERATOR else self.report.names.operator(code)
-            for code in self.operators
-        }
-        by_name = sorted(names, key=lambda code: names[code])
-        operators = joined(fill("option", value=code, name=names[code]) for code in by_name)
+        operators = joined(
+            self.operators[code] for code in sorted(self.operators, key=self.operator_name)
+        )
         found = self.report.numbers.of_kind
         kinds = [kind for kind in KINDS if found[kind] or kind == DATA]
         return operators, joined(

@@ -1,6 +1,7 @@
 """What is different between two bodies of a train, in words. docs/REPORT.md lists the rules."""
 from __future__ import annotations
 
+from collections import Counter
 from typing import Callable, Iterator, List, NamedTuple, Optional, Sequence, Tuple
 
 from .days import listed
@@ -207,17 +208,7 @@ def places(old: Body, new: Body, rows: Sequence[Row], names: Names) -> Iterator[
         yield Phrase(PLACES, f"starts at {starts}, not {was_start}")
     if new.calls[-1].location != old.calls[-1].location:
         yield Phrase(PLACES, f"ends at {ends}, not {was_end}")
-    between = rows[kept[0] : kept[-1] + 1]
-    more = [names.at(now) for was, now in between if now and stops(now) and not stops(was)]
-    fewer = [names.at(was) for was, now in between if was and stops(was) and not stops(now)]
-    again = set(more) & set(fewer)
-    if again:
-        yield Phrase(PLACES, "calls in another order")
-    more, fewer = ([name for name in found if name not in again] for found in (more, fewer))
-    if more:
-        yield Phrase(PLACES, f"calls also at {some(more, 'places')}")
-    if fewer:
-        yield Phrase(PLACES, f"no longer calls at {some(fewer, 'places')}")
+    yield from stops_between(old, new, rows[kept[0] : kept[-1] + 1], names)
     unlike = [
         at
         for at in range(kept[0], kept[-1])
@@ -228,6 +219,29 @@ def places(old: Body, new: Body, rows: Sequence[Row], names: Names) -> Iterator[
         after = min(at for at in kept if at > unlike[-1])
         around = [names.at(call) for call in (rows[before][1], rows[after][1]) if call]
         yield Phrase(PLACES, f"another way between {listed(around)}")
+
+
+def stops_between(old: Body, new: Body, between: Sequence[Row], names: Names) -> Iterator[Phrase]:
+    """Where only one of the journeys calls. It may call at the place another time, as a train does
+    that goes back the way it has come: then the numbers of its calls there say what is different.
+    """
+    before, after = (
+        Counter(names.at(call) for call in body.calls if stops(call)) for body in (old, new)
+    )
+    rows = [(now or was, stops(now) != stops(was)) for was, now in between]
+    unlike = [names.at(call) for call, is_unlike in rows if call and is_unlike]
+    more = [name for name in unlike if after[name] > before[name]]
+    fewer = [name for name in unlike if after[name] < before[name]]
+    if len(more) + len(fewer) < len(unlike):
+        yield Phrase(PLACES, "calls in another order")
+    for text, found in (
+        ("calls also at", [name for name in more if not before[name]]),
+        ("calls more often at", [name for name in more if before[name]]),
+        ("no longer calls at", [name for name in fewer if not after[name]]),
+        ("calls less often at", [name for name in fewer if after[name]]),
+    ):
+        if found:
+            yield Phrase(PLACES, f"{text} {some(found, 'places')}")
 
 
 def stops(call: Optional[Call]) -> bool:

@@ -9,7 +9,7 @@ from typing import IO, List, Optional, Sequence, Tuple
 
 from . import VERSION
 from .endings import SUCCESS
-from .running import open_streams, run, standard_output
+from .running import open_streams, printable, run, standard_output
 
 
 # An option with the value `--`, which argparse takes away in some releases of Python.
@@ -31,7 +31,7 @@ class Parser(argparse.ArgumentParser):
 
     def _print_message(self, message: str, file: Optional[IO[str]] = None) -> None:
         if file is not sys.stdout:
-            super()._print_message(message, file)
+            super()._print_message(printable(message), file)
             return
 
         def write(_: object) -> int:

@@ -3,6 +3,7 @@ from __future__ import annotations
 
 import gc
 import os
+import re
 import signal
 import sys
 import traceback
@@ -14,6 +15,13 @@ from .endings import FAILED, Ending, Failed
 from .progress import Progress
 
 INTERRUPTS = (signal.SIGINT, signal.SIGTERM, signal.SIGHUP)
+# What a terminal would act on, as it can stand in the name of a file; all but the line break.
+CONTROL = re.compile(r"[\x00-\x09\x0b-\x1f\x7f-\x9f]")
+
+
+def printable(text: str) -> str:
+    """A text as it is reported."""
+    return CONTROL.sub("?", text)
 
 
 def open_streams() -> None:
@@ -108,7 +116,7 @@ def run(program: str, work: Callable[[Progress], int]) -> int:
     try:
         progress.clear()
         if text:
-            print(text, file=sys.stderr, flush=True)
+            print(printable(text), file=sys.stderr, flush=True)
     except OSError:
         # nobody can be told, and what is left in the buffer goes nowhere
         os.dup2(os.open(os.devnull, os.O_WRONLY), sys.stderr.fileno())

@@ -221,6 +221,7 @@ def heading_of(lines: IO[bytes]) -> Table:
     return Table(lines.readline().decode().rstrip("\n").split("\t"), lines)
 
 
+HEADER = b"HD"
 SCHEDULE = b"BS"
 TRAILER = b"ZZ".ljust(80) + b"\n"
 # An extract has lines of 80 columns.
@@ -311,8 +312,12 @@ def open_extract(
 
 @contextmanager
 def copy_of(source: IO[bytes]) -> Iterator[Path]:
-    """The path of a temporary file with all that a source gives."""
+    """The path of a temporary file with all that a source gives, which may have no end. What doesn't
+    begin with a header is refused at its first line, so no more is copied."""
     with scratch_file_with_path() as (copy, path):
-        shutil.copyfileobj(source, copy, BLOCK)
+        first = source.readline(LONGEST)
+        copy.write(first)
+        if first.startswith(HEADER) and first.endswith(b"\n"):
+            shutil.copyfileobj(source, copy, BLOCK)
         copy.flush()
         yield path

@@ -27,8 +27,12 @@ class Background(Database):
     def fill(self, table: str, names: Sequence[str], rows: bytes) -> None:
         try:
             self.process.send((table, names, rows))
-        except OSError:
-            self.wait()
+        except OSError as problem:
+            # only a process that has ended says why
+            if self.process.poll():
+                self.wait()
+            reason = f"nothing can be sent to the process that writes it: {problem.strerror}"
+            raise Failed(f"the database: {reason}") from None
 
     def finish(self) -> None:
         """Says that all rows are there. `wait` says what ended the process early."""

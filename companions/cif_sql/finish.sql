@@ -1,23 +1,40 @@
--- Whoever may use the old schema and its tables may use the new ones.
+-- Whoever may use the old schema, its tables and their columns may use the new ones, and what is made in it later has the same
+-- privileges by default.
 DO $privileges$
 DECLARE
     statement text;
 BEGIN
     FOR statement IN
         SELECT
-            format('GRANT %s ON %s TO ', privilege_type, object) ||
+            command || ' ' || privilege_type || columns || ' ON ' || object || ' TO ' ||
             CASE grantee WHEN 0 THEN 'PUBLIC' ELSE quote_ident(pg_get_userbyid(grantee)) END ||
             CASE WHEN is_grantable THEN ' WITH GRANT OPTION' ELSE '' END
         FROM (
-            SELECT 'SCHEMA "@SCHEMA@_new"', nspacl
+            SELECT 'GRANT', '', 'SCHEMA "@SCHEMA@_new"', nspacl
             FROM pg_namespace
             WHERE nspname = '@SCHEMA@'
             UNION ALL
-            SELECT format('"@SCHEMA@_new".%I', relname), old.relacl
+            SELECT 'GRANT', '', format('"@SCHEMA@_new".%I', relname), old.relacl
             FROM pg_class AS old
             JOIN pg_class AS new USING (relname)
             WHERE old.relnamespace = to_regnamespace('"@SCHEMA@"') AND new.relnamespace = to_regnamespace('"@SCHEMA@_new"')
-        ) AS objects (object, acl)
+            UNION ALL
+            SELECT 'GRANT', format(' (%I)', attname), format('"@SCHEMA@_new".%I', relname), old_column.attacl
+            FROM pg_class AS old
+            JOIN pg_class AS new USING (relname)
+            JOIN pg_attribute AS old_column ON old_column.attrelid = old.oid
+            JOIN pg_attribute AS new_column USING (attname)
+            WHERE old.relnamespace = to_regnamespace('"@SCHEMA@"') AND new.relnamespace = to_regnamespace('"@SCHEMA@_new"')
+                AND new_column.attrelid = new.oid
+            UNION ALL
+            SELECT
+                format('ALTER DEFAULT PRIVILEGES FOR ROLE %I IN SCHEMA "@SCHEMA@_new" GRANT', pg_get_userbyid(defaclrole)),
+                '',
+                CASE defaclobjtype WHEN 'r' THEN 'TABLES' WHEN 'S' THEN 'SEQUENCES' WHEN 'f' THEN 'FUNCTIONS' ELSE 'TYPES' END,
+                defaclacl
+            FROM pg_default_acl
+            WHERE defaclnamespace = to_regnamespace('"@SCHEMA@"') AND pg_has_role(defaclrole, 'USAGE')
+        ) AS objects (command, columns, object, acl)
         CROSS JOIN aclexplode(acl)
     LOOP
         EXECUTE statement;

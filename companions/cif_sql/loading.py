@@ -10,6 +10,7 @@ from typing import IO, Callable, Dict, Iterator, List, Mapping, NamedTuple, Tupl
 
 from cif_shared.csv_files import Key
 from cif_shared.dates import Window
+from cif_shared.endings import Refused
 from cif_shared.files import BLOCK, scratch_file
 from cif_shared.headers import extracted_at
 from cif_shared.operators import OperatorRow, operator_name
@@ -21,7 +22,8 @@ from cif_shared.tables import AssociationRow, Extract, Header, Table, TiplocRow
 
 from .schema import Database, Filler, Row, rows_of
 
-DAY = 86400
+# A train has calls after at most so many midnights: each date of the window has a row for each of them. Real trains have two.
+MOST_MIDNIGHTS = 31
 
 
 class Source(NamedTuple):
@@ -63,13 +65,12 @@ def load_dates(database: Database, window: Window, midnights: int) -> None:
     """Fills the tables of dates. A train has calls after at most so many midnights."""
     days = [(day.isoformat(), day.isoweekday()) for day in window.days]
     database.fill("days", ("date", "weekday"), rows_of(days))
-    by_clock = [
-        ((day + timedelta(days=later)).isoformat(), later, day.isoformat(), day.isoweekday())
-        for day in window.days
-        for later in range(midnights + 1)
-    ]
-    names = "date midnights train_date weekday".split()
-    database.fill("clock_days", names, rows_of(by_clock))
+    by_clock = Filler(database, "clock_days", "date midnights train_date weekday".split())
+    for day in window.days:
+        dates = [(day + timedelta(days=later)).isoformat() for later in range(midnights + 1)]
+        train_day = (day.isoformat(), day.isoweekday())
+        by_clock.add(rows_of((date, later, *train_day) for later, date in enumerate(dates)))
+    by_clock.flush()
 
 
 class TrainsPerDay:
@@ -151,10 +152,16 @@ MOMENT = re.compile(rb"\t([0-9]{2,}:[0-9]{2}:[0-9]{2})(?=\t)")
 
 
 class Moments(Dict[bytes, bytes]):
-    """The seconds of each moment HH:MM:SS that is met, after a tab. Hours may go on past 24."""
+    """The seconds of each moment HH:MM:SS that is met, after a tab. Hours may go on past 24.
+    `midnights` is how many are before the last moment."""
+
+    def __init__(self) -> None:
+        super().__init__()
+        self.midnights = 0
 
     def __missing__(self, moment: bytes) -> bytes:
         hours, minutes, seconds = (int(part) for part in moment.split(b":"))
+        self.midnights = max(self.midnights, hours // 24)
         self[moment] = b"\t%d" % (hours * 3600 + minutes * 60 + seconds)
         return self[moment]
 
@@ -163,10 +170,6 @@ class Moments(Dict[bytes, bytes]):
         parts = MOMENT.split(text)
         parts[1::2] = map(self.__getitem__, parts[1::2])
         return b"".join(parts)
-
-    def midnights(self) -> int:
-        """How many midnights are before the last moment."""
-        return max((int(seconds) // DAY for seconds in self.values()), default=0)
 
 
 class Journey(NamedTuple):
@@ -209,6 +212,9 @@ class Journeys:
         self.journeys.add(f"{self.count}\t{self.uid}\n".encode())
         self.calls.add(with_number(self.count, calls))
         self.public_calls.add(with_number(self.count, self.moments.in_seconds(public)))
+        if self.moments.midnights > MOST_MIDNIGHTS:
+            most = f"a database has at most {MOST_MIDNIGHTS} in a train"
+            raise Refused(f"{self.uid} has calls after {self.moments.midnights} midnights: {most}")
         self.changes.add(with_number(self.count, changes))
         return Journey(self.count, public.count(b"\n"), self.ends_of(calls))
 
@@ -289,7 +295,7 @@ def load_trains(
     schedules.schedules.flush()
     names = "date operator passenger trains".split()
     database.fill("trains_per_day", names, rows_of(schedules.per_day.rows()))
-    return journeys.moments.midnights()
+    return journeys.moments.midnights
 
 
 def load(

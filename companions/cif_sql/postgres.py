@@ -6,6 +6,7 @@ import shutil
 from contextlib import ExitStack
 from typing import IO, Dict, NamedTuple, Sequence
 
+from cif_shared.csv_files import CONTROL
 from cif_shared.endings import Misused
 from cif_shared.files import BLOCK, scratch_file
 from cif_shared.headers import extracted_at
@@ -15,11 +16,17 @@ from .schema import Database, sql
 
 # Names that are the same in double quotes and without, and with `_new` have at most 63 letters.
 SCHEMA = re.compile("[a-z_][a-z0-9_]{0,58}")
+# What the name of a schema that is being filled ends in.
+NEW = "_new"
 
 
 def check_schema(name: str) -> None:
     if not SCHEMA.fullmatch(name):
-        raise Misused(f"the schema `{name}` has to be of small letters, digits and `_`")
+        shown = CONTROL.sub("?", name)
+        raise Misused(f"the schema `{shown}` has to be of small letters, digits and `_`")
+    if name.endswith(NEW):
+        filled = name[: -len(NEW)]
+        raise Misused(f"the schema `{name}` would be dropped by a run for `{filled}`: name another")
 
 
 class Copied(NamedTuple):
@@ -60,6 +67,6 @@ class PostgresScript(Database):
             copied.file.seek(0)
             shutil.copyfileobj(copied.file, output, BLOCK)
             add("\\.\n")
-        add(sql("indexes") + sql("cluster") + sql("views"))
+        add(sql("indexes") + sql("blanks") + sql("cluster") + sql("views"))
         add("".join(f"ANALYZE {table};\n" for table in self.tables))
-        add("BEGIN;\n" + sql("check") + sql("finish"))
+        add("BEGIN;\nSET LOCAL search_path = pg_catalog;\n" + sql("check") + sql("finish"))

@@ -42,25 +42,50 @@ def is_ours(path: Path) -> bool:
     return start.startswith(MAGIC) and start[PLACE] == APPLICATION.to_bytes(4, "big")
 
 
-def age_in(path: Path) -> Age:
-    """The age of the extract in a database of cif-sql."""
+@contextmanager
+def reading(path: Path) -> Iterator[sqlite3.Connection]:
+    """A connection to a database that is there. Nothing can be read of one that is locked."""
     address = f"file:{quote(str(path))}?mode=ro"
-    with closing(sqlite3.connect(address, uri=True)) as connection:
-        query = "SELECT extracted_at, first_date, last_date FROM extract"
-        [row] = connection.execute(query).fetchall()
-    return age_of(*row)
+    try:
+        with closing(sqlite3.connect(address, uri=True)) as connection:
+            yield connection
+    except sqlite3.OperationalError as problem:
+        if "locked" in str(problem):
+            raise Failed(f"{path} is locked by another program") from None
+        raise
+
+
+def age_in(path: Path) -> Age:
+    """The age of the extract in a database of cif-sql, whose table has one row. Only a table is read,
+    as a view can have any number of rows; only a table has a page of its own."""
+    with reading(path) as connection:
+        tables = "SELECT 1 FROM sqlite_master WHERE name = 'extract' AND rootpage > 0"
+        [_] = connection.execute(tables).fetchall()
+        query = "SELECT extracted_at, first_date, last_date FROM extract LIMIT 2"
+        [(moment, first, last)] = connection.execute(query).fetchall()
+    if not (isinstance(moment or "", str) and isinstance(first, str) and isinstance(last, str)):
+        raise ValueError("these are no texts")
+    return age_of(moment, first, last)
 
 
 def check_place(path: Path) -> None:
-    """Refuses to replace what isn't a database of cif-sql, or one into which somebody writes."""
+    """Refuses to replace what isn't a database of cif-sql, or one into which somebody writes. What
+    has not been written yet into a database that is gone would get into the new one."""
+    for suffix in "-wal", "-journal":
+        beside = path.with_name(path.name + suffix)
+        if beside.exists() and beside.stat().st_size:
+            of_whom = "a program that writes, or that has ended early"
+            raise Failed(f"{beside} is there, of {of_whom}: remove it if no program uses {path}")
     if not path.exists():
         return
     if not is_ours(path):
         raise Refused(f"{path} isn't a database of cif-sql, so it isn't replaced")
-    for suffix in "-wal", "-journal":
-        beside = path.with_name(path.name + suffix)
-        if beside.exists() and beside.stat().st_size:
-            raise Failed(f"{path} is written by another program: {beside} is there")
+    try:
+        with reading(path) as connection:
+            connection.execute("PRAGMA schema_version").fetchall()
+    except sqlite3.Error:
+        # it is damaged, which is no matter by force
+        pass
 
 
 def check_age(path: Path, header: Header) -> None:
@@ -130,7 +155,7 @@ def new_part(part: Path, place: Path) -> Iterator[SqliteFile]:
         connection.execute("BEGIN")
         yield SqliteFile(connection)
         connection.execute("COMMIT")
-        connection.executescript(sql("indexes"))
+        connection.executescript(sql("indexes") + sql("blanks"))
 
 
 def join_parts(longest: Path, others: Path, path: Path, place: Path) -> None:

@@ -270,9 +270,10 @@ def check_others(counts: Counts, name: str, expected: Expected, page: Page) -> N
 
 
 def check_size(counts: Counts, maker: Maker, expected: Expected, *words: Word) -> None:
-    """A page that would have too many bytes has fewer trains, and says so; the CSV file has all."""
+    """A page that would have too many bytes, also by its title, has fewer trains, and says so; the
+    CSV file has all."""
     most = 400_000
-    page = maker.small_page(most, *words)
+    page = maker.small_page(most, "--title", "&" * 10_000, *words)
     size = len(page.markup.encode())
     counts.test("a small page, its size", most * 0.8 < size <= most, size)
     left_out = len(expected.trains) - len(page.trains())
