@@ -29,7 +29,8 @@ from .journeys import by_definition, by_feed, transfers_of
 from .validator import ERROR, notices
 
 TOP = Path(__file__).resolve().parents[2]
-COMPANIONS = TOP / "companions"
+PACKAGES = TOP / "python"
+PROGRAMS = PACKAGES / "bin"
 FILES = (
     "stop_times",
     "trips",
@@ -99,7 +100,7 @@ class Maker:
 
     def run(self, *words: Word, program: str = "cif-gtfs") -> subprocess.CompletedProcess[str]:
         named: List[Word] = ["--cif", self.cif] if program == "cif-gtfs" else []
-        call = [COMPANIONS / program, *named, *words]
+        call = [PROGRAMS / program, *named, *words]
         return subprocess.run(call, cwd=self.folder, capture_output=True, text=True, check=False)
 
     def feed(self, *words: Word) -> Tuple[subprocess.CompletedProcess[str], Dict[str, str]]:

@@ -17,14 +17,14 @@ from datetime import date, timedelta
 from pathlib import Path
 from typing import Callable, DefaultDict, Dict, FrozenSet, List, Optional, Set, Tuple
 
-from cif_gtfs import trips
-from cif_shared.csv_files import Mistake, mail_address, web_address
-from cif_shared.endings import Refused
-from cif_shared.tables import rows_with, write_part
+from cif_timetable.gtfs import trips
+from cif_timetable.user_csv import Mistake, mail_address, web_address
+from cif_timetable.errors import Refused
+from cif_timetable._tables import rows_with, write_part
 
 from . import generated
 from .by_hand import uids_of
-from .checks import COMPANIONS, TOP, Counts, Maker, Word, interrupted
+from .checks import PROGRAMS, TOP, Counts, Maker, Word, interrupted
 from .feeds import Feed, Shown, active_services
 
 # A generated extract, and how many of its associations stay.
@@ -314,7 +314,7 @@ def check_pipes(counts: Counts, maker: Maker, special: Path) -> None:
     feed = maker.folder / "feed.zip"
     for name in "-", "/dev/stdin":
         feed.unlink()
-        words: List[Word] = [COMPANIONS / "cif-gtfs", "--cif", maker.cif, "-o", feed, name]
+        words: List[Word] = [PROGRAMS / "cif-gtfs", "--cif", maker.cif, "-o", feed, name]
         done = subprocess.run(
             words, input=special.read_bytes(), capture_output=True, cwd=maker.folder, check=False
         )
@@ -356,7 +356,7 @@ def check_space(counts: Counts, maker: Maker, special: Path) -> None:
         limited,
         "sh",
         temporary,
-        COMPANIONS / "cif-gtfs",
+        PROGRAMS / "cif-gtfs",
         "--cif",
         maker.cif,
         special,
@@ -478,7 +478,7 @@ def check_own_input(counts: Counts, maker: Maker, special: Path) -> None:
     told = f"cif-gtfs: {extract} would take the place of an input: rename one of them\n"
     for option in "-o", "--trips":
         for name in "-", "/dev/stdin":
-            words: List[Word] = [COMPANIONS / "cif-gtfs", "--cif", maker.cif]
+            words: List[Word] = [PROGRAMS / "cif-gtfs", "--cif", maker.cif]
             words += [option, "own.cif", name]
             with open(extract, "rb") as stdin:
                 done = subprocess.run(
@@ -623,7 +623,7 @@ def check_signals(counts: Counts, maker: Maker, special: Path) -> None:
         words: List[Word] = [
             "env",
             "--default-signal",
-            COMPANIONS / "cif-gtfs",
+            PROGRAMS / "cif-gtfs",
             "--cif",
             failing.cif,
             special,
@@ -646,7 +646,7 @@ def check_signals(counts: Counts, maker: Maker, special: Path) -> None:
 def check_terminal(counts: Counts, maker: Maker, special: Path) -> None:
     """On a terminal it tells how far it is, and ends with a clear line."""
     ours, theirs = pty.openpty()
-    words: List[Word] = [COMPANIONS / "cif-gtfs", "--cif", maker.cif, special]
+    words: List[Word] = [PROGRAMS / "cif-gtfs", "--cif", maker.cif, special]
     process = subprocess.Popen(words, cwd=maker.folder, stderr=theirs)
     os.close(theirs)
     told = b""

@@ -9,11 +9,11 @@ import zipfile
 from collections import Counter
 from typing import Dict, List, Tuple
 
-from cif_gtfs.associations import Association, Terms
-from cif_gtfs.compositions import Edge, told_apart
-from cif_shared.dates import Dated, Dates
+from cif_timetable.gtfs.associations import Association, Terms
+from cif_timetable.gtfs.compositions import Edge, told_apart
+from cif_timetable.days import Dated, Dates
 
-from .checks import COMPANIONS, Counts, Maker, Word
+from .checks import PACKAGES, Counts, Maker, Word
 from .feeds import rows_of
 
 SEED = 1
@@ -25,7 +25,7 @@ CALLS_OF_FUNCTIONS = 200
 LIMITED = """\
 import sys
 sys.path[0] = sys.argv.pop(1)
-from cif_gtfs.command_line import main
+from cif_timetable.gtfs.command_line import main
 sys.setrecursionlimit(int(sys.argv.pop(1)))
 sys.exit(main())
 """
@@ -96,7 +96,7 @@ def check_chain(counts: Counts, maker: Maker) -> None:
     """The last train of a long chain has the calls of all."""
     extract = maker.folder / "chain.cif"
     extract.write_text("".join(f"{line}\n" for line in chain("NP")))
-    words: List[Word] = [sys.executable, "-B", "-c", LIMITED, COMPANIONS, str(CALLS_OF_FUNCTIONS)]
+    words: List[Word] = [sys.executable, "-B", "-c", LIMITED, PACKAGES, str(CALLS_OF_FUNCTIONS)]
     words += ["--cif", maker.cif, "--whole-trains", "-o", "chain.zip", extract]
     done = subprocess.run(words, cwd=maker.folder, capture_output=True, text=True, check=False)
     counts.same("a long chain of whole trains, status", 1, done.returncode)

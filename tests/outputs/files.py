@@ -12,10 +12,10 @@ from pathlib import Path
 from typing import ContextManager, List
 from unittest import mock
 
-from cif_shared.endings import Failed
-from cif_shared.files import UnfinishedFolder, new_files, output_path, scratch_file_with_path
-from cif_shared.files import start_of_name
-from cif_shared.running import INTERRUPTS, catch_interrupts
+from cif_timetable.errors import Failed
+from cif_timetable._files import UnfinishedFolder, new_files, output_path, scratch_file_with_path
+from cif_timetable._files import start_of_name
+from cif_timetable._running import INTERRUPTS, catch_interrupts
 
 
 class InFolder(unittest.TestCase):

@@ -15,7 +15,8 @@ from typing import Dict, List, Tuple
 from .files import InFolder
 
 TOP = Path(__file__).resolve().parents[2]
-COMPANIONS = TOP / "companions"
+PACKAGES = TOP / "python"
+PROGRAMS = PACKAGES / "bin"
 # The program cif that is tested.
 CIF = TOP / "dist" / "cif"
 EXTRACT = str(TOP / "examples" / "timetable.cif")
@@ -60,7 +61,7 @@ class Programs(InFolder):
     """Runs of all programs."""
 
     def words(self, program: str) -> List[str]:
-        return [str(COMPANIONS / program), "--cif", str(CIF), *CALLS[program][0]]
+        return [str(PROGRAMS / program), "--cif", str(CIF), *CALLS[program][0]]
 
     def run_words(
         self, words: List[str], stdin: int = subprocess.DEVNULL, memory: int = 0
@@ -95,7 +96,7 @@ class Programs(InFolder):
         cif = self.folder / "changed-cif"
         cif.write_text(CHANGED.format(at=LAST[program], first=first, cif=CIF))
         cif.chmod(0o755)
-        return [str(COMPANIONS / program), "--cif", str(cif), *CALLS[program][0]]
+        return [str(PROGRAMS / program), "--cif", str(cif), *CALLS[program][0]]
 
     def test_folder_as_standard_input(self) -> None:
         folder = os.open(self.folder, os.O_RDONLY)
@@ -103,7 +104,7 @@ class Programs(InFolder):
         for program in (*CALLS, "cif-gtfs-csv"):
             with self.subTest(program):
                 words = NAPTAN if program == "cif-gtfs-csv" else CALLS[program][0]
-                done = self.run_words([str(COMPANIONS / program), *words], folder)
+                done = self.run_words([str(PROGRAMS / program), *words], folder)
                 told = f"{program}: standard input is a folder\n"
                 self.assertEqual((4, told, []), (done.returncode, done.stderr, self.left()))
 
@@ -130,7 +131,7 @@ class Programs(InFolder):
         for program, (words, _, _) in CALLS.items():
             for word in "--from=--", "-o--", "--output=--":
                 with self.subTest(program, word=word):
-                    done = self.run_words([str(COMPANIONS / program), word, *words])
+                    done = self.run_words([str(PROGRAMS / program), word, *words])
                     option = word[:2] if word == "-o--" else word[:-3]
                     told = f"{program}: error: argument {option}: expected one argument"
                     self.assertEqual((2, told), (done.returncode, done.stderr.splitlines()[-1]))
@@ -139,7 +140,7 @@ class Programs(InFolder):
         for program, (words, success, outputs) in CALLS.items():
             with self.subTest(program):
                 self.clear()
-                own = [str(COMPANIONS), program.replace("-", "_"), "--cif", str(CIF), *words]
+                own = [str(PACKAGES), f"cif_timetable.{program[4:]}", "--cif", str(CIF), *words]
                 done = self.run_words([sys.executable, "-B", "-c", INTERRUPTED, *own])
                 self.assertEqual(success, done.returncode, done.stderr)
                 self.assertNotIn("interrupted", done.stderr)

@@ -6,7 +6,7 @@ import sys
 from pathlib import Path
 from typing import Callable, List, Mapping, Optional, TypeVar
 
-from gtfs.checks import COMPANIONS, Counts, Word
+from gtfs.checks import PACKAGES, PROGRAMS, Counts, Word
 
 from .definition import Expected
 from .page import Page, bars, heights
@@ -32,7 +32,7 @@ class Maker:
     ) -> subprocess.CompletedProcess[str]:
         """How a run ends that has this text as its standard input, and calls a function first."""
         return subprocess.run(
-            [COMPANIONS / "cif-report", "--cif", self.cif, *words],
+            [PROGRAMS / "cif-report", "--cif", self.cif, *words],
             cwd=self.folder,
             input=stdin,
             capture_output=True,
@@ -44,7 +44,7 @@ class Maker:
     def run_bytes(self, stdin: bytes, *words: Word) -> subprocess.CompletedProcess[bytes]:
         """The same in bytes."""
         return subprocess.run(
-            [COMPANIONS / "cif-report", "--cif", self.cif, *words],
+            [PROGRAMS / "cif-report", "--cif", self.cif, *words],
             cwd=self.folder,
             input=stdin,
             capture_output=True,
@@ -53,7 +53,7 @@ class Maker:
 
     def small_page(self, most_bytes: int, *words: Word) -> Page:
         """What a page says that may have so many bytes only."""
-        program = f"import sys; sys.path.insert(0, {str(COMPANIONS)!r}); from cif_report import page, command_line;"
+        program = f"import sys; sys.path.insert(0, {str(PACKAGES)!r}); from cif_timetable.report import page, command_line;"
         program += f" page.MOST_BYTES = {most_bytes}; sys.exit(command_line.main())"
         call: List[Word] = [
             sys.executable,

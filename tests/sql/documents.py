@@ -6,7 +6,7 @@ import re
 import subprocess
 from pathlib import Path
 
-from gtfs.checks import COMPANIONS, TOP, Counts
+from gtfs.checks import PROGRAMS, TOP, Counts
 
 from .by_hand import EXAMPLE
 from .checks import Maker, sqlite_rows
@@ -78,7 +78,7 @@ def check_job(counts: Counts, cif: Path, folder: Path) -> None:
     programs = folder / "bin"
     programs.mkdir()
     (programs / "cif").symlink_to(cif)
-    (programs / "cif-sql").symlink_to(COMPANIONS / "cif-sql")
+    (programs / "cif-sql").symlink_to(PROGRAMS / "cif-sql")
     (folder / "holidays.txt").write_text((TOP / "examples" / "holidays.txt").read_text())
     for name in {name for name, _, _ in DAYS} - {"cut.cif"}:
         (folder / name).write_bytes((TOP / "examples" / name).read_bytes())

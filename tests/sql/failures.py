@@ -16,7 +16,7 @@ from contextlib import closing
 from pathlib import Path
 from typing import Callable, Dict, List, Optional, Set, Tuple, Union
 
-from gtfs.checks import COMPANIONS, Counts, Word, interrupted
+from gtfs.checks import PACKAGES, PROGRAMS, Counts, Word, interrupted
 from gtfs.failures import FAILING
 
 from .checks import Maker, sqlite_rows
@@ -85,7 +85,7 @@ def check_names(counts: Counts, maker: Maker, special: Path) -> None:
     refused(counts, maker, "the extract in its place", 2, "place of an input", copy)
     with open(copy, "rb") as stdin:
         done = subprocess.run(
-            [COMPANIONS / "cif-sql", "--cif", maker.cif, "-o", copy, "-"],
+            [PROGRAMS / "cif-sql", "--cif", maker.cif, "-o", copy, "-"],
             cwd=maker.folder,
             stdin=stdin,
             capture_output=True,
@@ -108,7 +108,7 @@ def check_streams(counts: Counts, maker: Maker, special: Path) -> None:
     """What is read and written where standard streams are closed, or files, or full."""
     copy = maker.folder / "-"
     copy.write_bytes(special.read_bytes())
-    call: List[Word] = [COMPANIONS / "cif-sql", "--cif", maker.cif]
+    call: List[Word] = [PROGRAMS / "cif-sql", "--cif", maker.cif]
     read: Dict[str, List[Word]] = {
         "a file called -": ["-o", "made.db", "./-"],
         "standard input from a file": ["-o", "made.db", "/dev/stdin"],
@@ -155,7 +155,7 @@ def check_streams(counts: Counts, maker: Maker, special: Path) -> None:
 
 def check_output(counts: Counts, maker: Maker, special: Path) -> None:
     """Output that can't be written, also where Python is asked to buffer nothing."""
-    call: List[Word] = [COMPANIONS / "cif-sql", "--cif", maker.cif]
+    call: List[Word] = [PROGRAMS / "cif-sql", "--cif", maker.cif]
     whole = len(maker.run("--postgres", special).stdout)
 
     def little_space() -> None:
@@ -331,7 +331,7 @@ def check_endless(counts: Counts, maker: Maker) -> None:
     for shell in "exec cat /dev/zero", "exec yes":
         with subprocess.Popen(["sh", "-c", shell], stdout=subprocess.PIPE) as source:
             done = subprocess.run(
-                [COMPANIONS / "cif-sql", "--cif", maker.cif, "-o", "made.db", "-"],
+                [PROGRAMS / "cif-sql", "--cif", maker.cif, "-o", "made.db", "-"],
                 cwd=maker.folder,
                 stdin=source.stdout,
                 stderr=subprocess.PIPE,
@@ -389,9 +389,9 @@ SENDS = """
 import errno, sys
 from contextlib import contextmanager
 sys.path.insert(0, sys.argv[1])
-from cif_shared.endings import Failed
-from cif_sql.background import in_background
-from cif_sql.schema import Database
+from cif_timetable.errors import Failed
+from cif_timetable.sql.background import in_background
+from cif_timetable.sql.schema import Database
 
 class Broken:
     def __init__(self, process):
@@ -418,7 +418,7 @@ def check_sending(counts: Counts) -> None:
     """If nothing can be sent to a process that lives, the run fails, and doesn't wait for it."""
     try:
         done = subprocess.run(
-            [sys.executable, "-B", "-c", SENDS, COMPANIONS],
+            [sys.executable, "-B", "-c", SENDS, PACKAGES],
             capture_output=True,
             text=True,
             check=False,
@@ -470,7 +470,7 @@ def check_signals(counts: Counts, maker: Maker, special: Path) -> None:
         # what runs in the background may have interrupts ignored
         "env",
         "--default-signal",
-        COMPANIONS / "cif-sql",
+        PROGRAMS / "cif-sql",
         "--cif",
         failing.cif,
         "--force",
@@ -512,7 +512,7 @@ def writers_of(process: subprocess.Popen[str]) -> List[int]:
     return [
         int(child)
         for child in children
-        if b"/cif-sql\0" in Path(f"/proc/{child}/cmdline").read_bytes()
+        if b"\0cif-sql\0" in Path(f"/proc/{child}/cmdline").read_bytes()
     ]
 
 
@@ -522,7 +522,7 @@ def check_writers(counts: Counts, maker: Maker, special: Path) -> None:
     failing = failing_cif(maker, "calls", "touch reached; sleep 1; exit 0")
     before = {path.name: path.read_bytes() for path in maker.folder.iterdir()}
     words: List[Word] = [
-        COMPANIONS / "cif-sql",
+        PROGRAMS / "cif-sql",
         "--cif",
         failing.cif,
         "--force",
@@ -560,7 +560,7 @@ def check_kills(counts: Counts, maker: Maker, special: Path) -> None:
     """Killed at any moment, with the processes that write, it leaves the old database or the new one, whole."""
     first = changed(maker, special, "first.cif", ("DFTEST1", "DFTESTA"))
     extracts = {"DFTESTA": first, "DFTEST1": special}
-    words: List[Word] = [COMPANIONS / "cif-sql", "--cif", maker.cif, "--force", "-o", "kept.db"]
+    words: List[Word] = [PROGRAMS / "cif-sql", "--cif", maker.cif, "--force", "-o", "kept.db"]
     start = time.monotonic()
     maker.run(*words[3:], special)
     whole = time.monotonic() - start

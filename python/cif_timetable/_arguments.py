@@ -1,0 +1,88 @@
+"""The arguments that all programs have."""
+from __future__ import annotations
+
+import argparse
+import re
+import sys
+from itertools import takewhile
+from typing import IO, List, Optional, Sequence, Tuple
+
+from . import __version__
+from .errors import SUCCESS
+from ._running import open_streams, printable, run, standard_output
+
+
+# An option with the value `--`, which argparse takes away in some releases of Python.
+WITHOUT_VALUE = re.compile(r"(--[a-z-]+)=--|(-[a-z])--")
+
+
+class Parser(argparse.ArgumentParser):
+    """Reads arguments. If the help or the version can't be written, the run ends as any other."""
+
+    def parse_known_args(
+        self, args: Optional[Sequence[str]] = None, namespace: Optional[argparse.Namespace] = None
+    ) -> Tuple[argparse.Namespace, List[str]]:
+        words = sys.argv[1:] if args is None else args
+        for word in takewhile(lambda word: word != "--", words):
+            found = WITHOUT_VALUE.fullmatch(word)
+            if found:
+                self.error(f"argument {found[1] or found[2]}: expected one argument")
+        return super().parse_known_args(words, namespace)
+
+    def _print_message(self, message: str, file: Optional[IO[str]] = None) -> None:
+        if file is not sys.stdout:
+            super()._print_message(printable(message), file)
+            return
+
+        def write(_: object) -> int:
+            with standard_output() as output:
+                output.write(message.encode())
+            return SUCCESS
+
+        status = run(self.prog, write)
+        if status != SUCCESS:
+            sys.exit(status)
+
+
+def new_parser(program: str, about: str, epilog: str = "") -> argparse.ArgumentParser:
+    """The parser of a program that starts."""
+    open_streams()
+    return Parser(
+        program,
+        description=about,
+        epilog=epilog,
+        add_help=False,
+        allow_abbrev=False,
+        formatter_class=argparse.RawDescriptionHelpFormatter,
+    )
+
+
+def add_window(parser: argparse.ArgumentParser) -> None:
+    parser.add_argument("--from", dest="first", metavar="YYMMDD", help="first date of the window")
+    parser.add_argument("--to", dest="last", metavar="YYMMDD", help="last date of the window")
+
+
+def add_names(parser: argparse.ArgumentParser) -> None:
+    parser.add_argument(
+        "--places",
+        metavar="FILE",
+        help="names and coordinates: a CSV file with tiploc, name, latitude, longitude",
+    )
+    parser.add_argument(
+        "--operators", metavar="FILE", help="names of operators: operator_code, name, url"
+    )
+
+
+def add_cif(parser: argparse.ArgumentParser) -> None:
+    parser.add_argument(
+        "--cif",
+        metavar="PROGRAM",
+        help="the program cif, by default that beside this one, or else on the PATH",
+    )
+
+
+def add_help(parser: argparse.ArgumentParser) -> None:
+    parser.add_argument("-h", "--help", action="help", help="print help")
+    parser.add_argument(
+        "-V", "--version", action="version", version=f"%(prog)s {__version__}", help="print version"
+    )
