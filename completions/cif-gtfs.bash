@@ -2,11 +2,11 @@
 
 _cif_gtfs() {
     local written=${COMP_WORDS[COMP_CWORD]} before=${COMP_WORDS[COMP_CWORD - 1]}
-    local options='--places --operators --interchange --links --from --to --extended-types --whole-trains'
+    local options='--places --operators --interchange --links --from --to --holidays --drop-clashes --extended-types --whole-trains'
     options+=' --publisher --url --email --trips --places-wanted -o --output --cif -h --help -V --version'
     COMPREPLY=()
     case $before in
-    --places | --operators | --interchange | --links | --trips | --places-wanted | -o | --output | --cif) compopt -o default ;;
+    --holidays | --places | --operators | --interchange | --links | --trips | --places-wanted | -o | --output | --cif) compopt -o default ;;
     --from | --to | --publisher | --url | --email) ;;
     *)
         if [[ $written == -* ]]; then

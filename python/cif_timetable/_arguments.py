@@ -4,10 +4,12 @@ from __future__ import annotations
 import argparse
 import re
 import sys
+from dataclasses import replace
 from itertools import takewhile
 from typing import IO, List, Optional, Sequence, Tuple
 
-from . import __version__
+from . import __version__  # pylint: disable=cyclic-import
+from ._extract import Request
 from .errors import SUCCESS
 from ._running import open_streams, printable, run, standard_output
 
@@ -57,9 +59,18 @@ def new_parser(program: str, about: str, epilog: str = "") -> argparse.ArgumentP
     )
 
 
-def add_window(parser: argparse.ArgumentParser) -> None:
+def add_reading(parser: argparse.ArgumentParser) -> None:
+    """How an extract is read."""
     parser.add_argument("--from", dest="first", metavar="YYMMDD", help="first date of the window")
     parser.add_argument("--to", dest="last", metavar="YYMMDD", help="last date of the window")
+    parser.add_argument(
+        "--holidays", metavar="FILE", help="the dates of the holiday codes of a published extract"
+    )
+    parser.add_argument(
+        "--drop-clashes",
+        action="store_true",
+        help="leave out what has a clash, on the dates of the clash",
+    )
 
 
 def add_names(parser: argparse.ArgumentParser) -> None:
@@ -73,11 +84,21 @@ def add_names(parser: argparse.ArgumentParser) -> None:
     )
 
 
+def preparing_of(asked: argparse.Namespace, name: str) -> Request:
+    """An extract by its name, and what prepares it."""
+    return Request(name, holidays=asked.holidays, drop_clashes=asked.drop_clashes)
+
+
+def request_of(asked: argparse.Namespace, name: str) -> Request:
+    """Likewise, with the part of its window that is asked for."""
+    return replace(preparing_of(asked, name), first=asked.first, last=asked.last)
+
+
 def add_cif(parser: argparse.ArgumentParser) -> None:
     parser.add_argument(
         "--cif",
         metavar="PROGRAM",
-        help="the program cif, by default that beside this one, or else on the PATH",
+        help="the program cif, by default that of CIF, or the one beside this, or on the PATH",
     )
 
 

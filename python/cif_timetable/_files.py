@@ -15,7 +15,7 @@ from pathlib import Path
 from typing import IO, Any, Dict, Iterable, Iterator, List, Optional, Tuple
 
 from .errors import Failed, Misused
-from ._running import INTERRUPTS, ignore_interrupts
+from ._running import INTERRUPTS, ends_by_interrupts, ignore_interrupts
 
 BLOCK = 1 << 20
 
@@ -274,7 +274,8 @@ class NewFiles:
                 path.chmod(mode)
         with interrupts_waiting():
             self.replace_all()
-            ignore_interrupts()
+            if ends_by_interrupts():
+                ignore_interrupts()
             self.discard()
 
     def replace_all(self) -> None:

@@ -8,11 +8,13 @@ import subprocess
 import sysconfig
 from contextlib import contextmanager
 from pathlib import Path
-from typing import IO, Collection, Iterator, Optional, Sequence
+from typing import IO, Callable, Collection, Iterator, Optional, Sequence
 
-from .errors import FAILED, REFUSED, SUCCESS, USAGE, CifEnded, Ending, Failed, Unexpected
+from .errors import FAILED, REFUSED, SUCCESS, USAGE, CifEnded, CifError, Failed, Unexpected
 from ._files import BLOCK, scratch_file
 
+# How cif begins a line of what it reports.
+SAID = "cif: "
 # The statuses of cif that say of themselves why it ended.
 FAULTS = (USAGE, REFUSED, FAILED)
 
@@ -46,6 +48,10 @@ def find_cif(asked: Optional[str] = None) -> Cif:
     return Cif(found)
 
 
+def ignored(_report: str) -> None:
+    """Does nothing with what `cif` reports."""
+
+
 def read_rest(stream: IO[bytes]) -> None:
     while stream.read(BLOCK):
         pass
@@ -53,7 +59,7 @@ def read_rest(stream: IO[bytes]) -> None:
 
 def is_own(problem: Exception) -> bool:
     """Whether what ends a run has nothing to do with what `cif` writes."""
-    own = isinstance(problem, (Ending, OSError, MemoryError))
+    own = isinstance(problem, (CifError, OSError, MemoryError))
     return own and not isinstance(problem, Unexpected)
 
 
@@ -77,10 +83,12 @@ class Cif:
         words: Sequence[str],
         stdin: Optional[IO[bytes]] = None,
         good: Collection[int] = (SUCCESS,),
+        tell: Callable[[str], None] = ignored,
     ) -> Iterator[IO[bytes]]:
         """What a call writes, as it comes. What the block leaves is read too, since `cif` fails if it
         can't write all. If the block fails, `cif` ends with it. If its status isn't a good one, the
-        run ends with what it reported and what would help."""
+        run ends with what it reported and what would help; else `tell` gets each line of what it
+        reported."""
         with scratch_file() as report:
             call = [self.path, *words[:1], "--verbose", *words[1:]]
             try:
@@ -104,13 +112,18 @@ class Cif:
                 except BaseException:
                     process.kill()
                     raise
+            report.seek(0)
+            reported = report.read().decode(errors="replace")
             if process.returncode not in good:
-                report.seek(0)
-                raise self.ending(process.returncode, report.read())
+                raise self.ending(process.returncode, reported)
+            for line in reported.splitlines():
+                # the others are what is said to the verbose
+                if line.startswith(SAID):
+                    tell(line)
 
-    def ending(self, status: int, report: bytes) -> CifEnded:
+    def ending(self, status: int, report: str) -> CifEnded:
         """How the run ends after a call that ended so."""
-        lines = report.decode(errors="replace").splitlines()
+        lines = report.splitlines()
         if status < 0:
             lines.append(f"cif was killed by {name_of_signal(-status)}: {self.path}")
         elif status not in FAULTS:

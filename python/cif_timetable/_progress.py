@@ -7,8 +7,8 @@ import sys
 class Progress:
     """Shows how far a run is if standard error is a terminal, and else nothing."""
 
-    def __init__(self) -> None:
-        self.visible = sys.stderr.isatty()
+    def __init__(self, visible: bool = True) -> None:
+        self.visible = visible and sys.stderr.isatty()
         self.text = ""
 
     def show(self, text: str) -> None:

@@ -11,7 +11,7 @@ from contextlib import contextmanager
 from types import FrameType
 from typing import IO, Callable, Iterator, Optional
 
-from .errors import FAILED, Ending, Failed
+from .errors import FAILED, CifError, Failed
 from ._progress import Progress
 
 INTERRUPTS = (signal.SIGINT, signal.SIGTERM, signal.SIGHUP)
@@ -51,6 +51,12 @@ def nothing(_number: int, _frame: Optional[FrameType]) -> None:
 def ignore_interrupts() -> None:
     for number in INTERRUPTS:
         signal.signal(number, nothing)
+
+
+def ends_by_interrupts() -> bool:
+    """Whether this is the run of a program, which interrupts end. What imports this package decides
+    itself what they do."""
+    return any(signal.getsignal(number) == interrupt for number in INTERRUPTS)
 
 
 def interrupt(number: int, _frame: Optional[FrameType]) -> None:
@@ -95,7 +101,7 @@ def run(program: str, work: Callable[[Progress], int]) -> int:
     text = ""
     try:
         status = work(progress)
-    except Ending as ending:
+    except CifError as ending:
         text = ending.text(program)
         status = ending.status
     except BrokenPipeError:

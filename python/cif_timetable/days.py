@@ -4,7 +4,9 @@ A set of dates is a number: bit 0 is the first date of the window, bit 1 the nex
 """
 from __future__ import annotations
 
+from array import array
 from datetime import date, timedelta
+from itertools import accumulate
 from typing import Callable, Dict, Generic, Iterator, List, Sequence, Tuple, TypeVar
 
 Dates = int
@@ -83,10 +85,9 @@ class Dated(Generic[Item]):
 class Window:
     """The dates from the first to the last."""
 
-    def __init__(self, first: str, last: str) -> None:
-        start = date.fromisoformat(first)
-        count = (date.fromisoformat(last) - start).days + 1
-        self.days: List[date] = [start + timedelta(days=number) for number in range(count)]
+    def __init__(self, first: date, last: date) -> None:
+        count = (last - first).days + 1
+        self.days: List[date] = [first + timedelta(days=number) for number in range(count)]
         self.numbers = {day.isoformat().encode(): number for number, day in enumerate(self.days)}
         # of each weekday, Monday first, its dates
         self.weekdays: List[Dates] = [0] * 7
@@ -104,3 +105,34 @@ class Window:
             weekdays = zip(self.weekdays, days_run.decode())
             runs = self.of_days_run[days_run] = sum(dates for dates, bit in weekdays if bit == "1")
         return (self.up_to[last] - self.before[first]) & runs
+
+
+Key = TypeVar("Key")
+
+
+class TrainsPerDay(Generic[Key]):
+    """How many trains run on each date of a window, by what is said of them. Those with the same days
+    run are counted together, by the dates from which on there is one more or less."""
+
+    def __init__(self, window: Window) -> None:
+        self.window = window
+        self.changes: Dict[Key, Dict[bytes, "array[int]"]] = {}
+
+    def add(self, key: Key, first: bytes, last: bytes, days_run: bytes) -> None:
+        """Adds a train from the first to the last date, as a table has them."""
+        by_days_run = self.changes.setdefault(key, {})
+        changes = by_days_run.get(days_run)
+        if changes is None:
+            changes = by_days_run[days_run] = array("l", [0]) * (len(self.window.days) + 1)
+        changes[self.window.numbers[first]] += 1
+        changes[self.window.numbers[last] + 1] -= 1
+
+    def counts(self) -> Iterator[Tuple[Key, List[int]]]:
+        """What is said of trains, each with the number of trains on each date."""
+        for key, by_days_run in self.changes.items():
+            counts = [0] * len(self.window.days)
+            for days_run, changes in by_days_run.items():
+                for number, (day, trains) in enumerate(zip(self.window.days, accumulate(changes))):
+                    if days_run[day.weekday()] == ord("1"):
+                        counts[number] += trains
+            yield key, counts

@@ -6,7 +6,7 @@ from dataclasses import dataclass
 from typing import Dict, Iterable, Iterator, List, Mapping, Match, NamedTuple, Optional, Tuple
 
 from .user_csv import Field, Key, Layout, degrees, plain_text
-from ._tables import TiplocRow
+from .model import Location
 
 # Words that have small letters, unless a name or a bracket begins with one, and words that stay in
 # capitals.
@@ -90,7 +90,7 @@ class Station(NamedTuple):
 class Places:
     """All TIPLOCs by their names. A station is made of those with one CRS code."""
 
-    def __init__(self, rows: Iterable[TiplocRow], given: Mapping[Key, PlaceRow]) -> None:
+    def __init__(self, rows: Iterable[Location], given: Mapping[Key, PlaceRow]) -> None:
         self.given = given
         self.tiplocs: Dict[str, Tiploc] = {}
         self.of_station: Dict[str, List[Tiploc]] = {}
@@ -99,8 +99,8 @@ class Places:
         for row in rows:
             name = row.tiploc.strip()
             if name not in self.tiplocs:
-                described = row.tps_description.strip() or row.description.strip()
-                self.add(name, row.crs_code.strip(), described)
+                described = (row.tps_description or "").strip() or (row.description or "").strip()
+                self.add(name, (row.crs_code or "").strip(), described)
 
     def add(self, name: str, crs: str, described: str) -> Tiploc:
         given = self.given.get((name,), PlaceRow(name, None, None, None))

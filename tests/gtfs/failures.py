@@ -1,7 +1,6 @@
 """What is refused, that a failure leaves nothing, and what stays the same from run to run."""
 from __future__ import annotations
 
-import gzip
 import io
 import os
 import pty
@@ -20,7 +19,8 @@ from typing import Callable, DefaultDict, Dict, FrozenSet, List, Optional, Set, 
 from cif_timetable.gtfs import trips
 from cif_timetable.user_csv import Mistake, mail_address, web_address
 from cif_timetable.errors import Refused
-from cif_timetable._tables import rows_with, write_part
+from cif_timetable._extract import write_part
+from cif_timetable._tables import rows_with
 
 from . import generated
 from .by_hand import uids_of
@@ -328,14 +328,11 @@ def check_pipes(counts: Counts, maker: Maker, special: Path) -> None:
     feed.unlink()
 
 
-def check_hints(counts: Counts, maker: Maker, special: Path) -> None:
+def check_hints(counts: Counts, maker: Maker) -> None:
     """What cif says of an input that isn't an extract helps."""
-    packed, update = maker.folder / "packed.gz", EXAMPLES / "update.cif"
-    packed.write_bytes(gzip.compress(special.read_bytes()))
     for path, hint in (
-        (packed, "decompress it"),
-        (EXAMPLES / "published.cif", "cif prepare"),
-        (update, "cif update"),
+        (EXAMPLES / "published.cif", "--holidays FILE gives"),
+        (EXAMPLES / "update.cif", "cif update"),
     ):
         done = maker.run(path)
         counts.test(
@@ -889,7 +886,7 @@ def check(counts: Counts, maker: Maker, special: Path) -> None:
     check_wanted(counts, maker, special)
     check_pipes(counts, maker, special)
     check_failures(counts, maker, special)
-    check_hints(counts, maker, special)
+    check_hints(counts, maker)
     check_space(counts, maker, special)
     check_publisher(counts, maker, special)
     check_addresses(counts)

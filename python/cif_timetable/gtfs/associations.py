@@ -10,7 +10,7 @@ from enum import Enum
 from typing import Dict, Iterable, List, Mapping, NamedTuple, Optional, Tuple
 
 from ..days import Dated, Dates, Window, count_of, moved
-from .._tables import AssociationRow
+from ..model import Association as AssociationRow
 
 from .calls import DAY, HOUR, Spot, Variant
 
@@ -19,7 +19,7 @@ JOIN = "JJ"
 NEXT = "NP"
 CATEGORIES = (DIVIDE, JOIN, NEXT)
 DAYS_LATER = {"": 0, "S": 0, "N": 1, "P": -1}
-PASSENGER = ("", "P")
+PASSENGER = (None, "P")
 # Nobody stays seated for longer than this.
 LONGEST_WAIT = 6 * HOUR
 
@@ -107,15 +107,15 @@ def associations_of(rows: Iterable[AssociationRow], window: Window) -> List[Asso
     for row in rows:
         if row.association_type in PASSENGER:
             terms = Terms(
-                row.category,
-                row.date_indicator,
+                row.category or "",
+                row.date_indicator or "",
                 row.base_uid,
                 row.associated_uid,
                 row.location,
-                row.base_suffix,
-                row.associated_suffix,
+                row.base_suffix or "",
+                row.associated_suffix or "",
             )
-            span = (row.first_date, row.last_date, row.days_run)
+            span = (str(row.first_date), str(row.last_date), row.days_run)
             dates = window.dates(*(text.encode() for text in span))
             found.setdefault(terms, Association(terms)).dates |= dates
     return list(found.values())

@@ -5,22 +5,19 @@ import argparse
 import sys
 from typing import Optional, Sequence
 
-from .._arguments import add_cif, add_help, add_names, add_window, new_parser
+from .._arguments import add_cif, add_help, add_names, add_reading, new_parser
+from .._arguments import request_of
 from .._process import find_cif
-from ..user_csv import Mistake, mail_address, name_of_publisher, read_file
-from ..user_csv import shown, web_address
+from ..user_csv import Mistake, mail_address, name_of_publisher, shown, web_address
 from ..errors import SUCCESS, Misused
 from .._files import check_inputs_stay, output_path
-from ..operators import read_operators
-from ..places import PLACES
 from .._progress import Progress
 from .._running import leave_cycles, run
-from .._tables import open_extract
+from .._extract import open_extract
 
-from .conversion import Outputs, UserFiles, Wishes, convert
+from .conversion import Outputs, Wishes, convert, user_files
 from .feed import Publisher
 from .trains import EXTENDED_TYPES, TYPES
-from .user_files import INTERCHANGE, LINKS
 from .wanted import ListPlace
 
 PROGRAM = "cif-gtfs"
@@ -31,8 +28,8 @@ PUBLISHER = "Made by cif-gtfs, publisher not named"
 NO_WEB = "https://example.com/"
 
 ABOUT = """\
-Makes a GTFS feed of a CIF timetable extract, which has to be one that
-`cif normalise` accepts.
+Makes a GTFS feed of a CIF timetable extract, as it is published or as
+`cif prepare` writes it. It may be compressed by gzip, or the only one in a zip.
 """
 STATUSES = """\
 statuses:
@@ -51,7 +48,7 @@ def arguments_of(words: Optional[Sequence[str]]) -> argparse.Namespace:
     add_names(parser)
     add("--interchange", metavar="FILE", help="minimum times of change: crs, minutes")
     add("--links", metavar="FILE", help="links between stations: from, to, minutes")
-    add_window(parser)
+    add_reading(parser)
     add(
         "--extended-types",
         action="store_true",
@@ -96,7 +93,7 @@ def outputs_of(asked: argparse.Namespace) -> Outputs:
     if asked.places_wanted is not None:
         wanted = ListPlace(output_path(asked.places_wanted), asked.places_wanted)
     outputs = [place for place in (feed, wanted and wanted.place, trips) if place]
-    others = (asked.places, asked.operators, asked.interchange, asked.links)
+    others = (asked.places, asked.operators, asked.interchange, asked.links, asked.holidays)
     check_inputs_stay(outputs, [asked.extract], others)
     if len(set(outputs)) < len(outputs):
         raise Misused("two outputs have one place")
@@ -105,33 +102,31 @@ def outputs_of(asked: argparse.Namespace) -> Outputs:
     return Outputs(feed, wanted, trips)
 
 
-def publisher_of(asked: argparse.Namespace) -> Publisher:
+def publisher_of(name: Optional[str], url: Optional[str], email: Optional[str]) -> Publisher:
     """Who answers for the feed, as the user says."""
     for option, value, read in (
-        ("--publisher", asked.publisher, name_of_publisher),
-        ("--url", asked.url, web_address),
-        ("--email", asked.email, mail_address),
+        ("--publisher", name, name_of_publisher),
+        ("--url", url, web_address),
+        ("--email", email, mail_address),
     ):
+        if value is None:
+            continue
         try:
-            if value is not None:
-                read(value)
+            read(value)
         except Mistake as mistake:
             raise Misused(f"{option} {shown(value)} {mistake}") from None
-    return Publisher(asked.publisher or PUBLISHER, asked.url or NO_WEB, asked.email or "")
+    return Publisher(name or PUBLISHER, url or NO_WEB, email or "")
 
 
 def make_feed(asked: argparse.Namespace, progress: Progress) -> int:
     """The status, after the zip is written."""
     outputs = outputs_of(asked)
     types = EXTENDED_TYPES if asked.extended_types else TYPES
-    wishes = Wishes(types, asked.whole_trains, publisher_of(asked))
-    given = UserFiles(
-        read_file(PLACES, asked.places),
-        read_operators(asked.operators),
-        read_file(INTERCHANGE, asked.interchange),
-        read_file(LINKS, asked.links),
+    wishes = Wishes(
+        types, asked.whole_trains, publisher_of(asked.publisher, asked.url, asked.email)
     )
-    with open_extract(find_cif(asked.cif), asked.extract, asked.first, asked.last) as extract:
+    given = user_files(asked.places, asked.operators, asked.interchange, asked.links)
+    with open_extract(find_cif(asked.cif), request_of(asked, asked.extract)) as extract:
         outcome = convert(extract, given, wishes, outputs, progress)
     progress.clear()
     for line in outcome.left_out.lines():

@@ -21,15 +21,18 @@ from typing import (
     Tuple,
 )
 
-from ..user_csv import Key
+from ..user_csv import Key, read_file
 from ..days import Dated, Dates, Window
 from ..errors import Refused
 from .._files import BLOCK, new_files, scratch_file
-from ..operators import OperatorRow
-from ..places import PlaceRow, Places
+from ..operators import OperatorRow, read_operators
+from ..places import PLACES, PlaceRow, Places
 from .._progress import Progress
 from .._schedules import numbered, numbers_of, rows_of
-from .._tables import AssociationRow, Extract, Header, Table, TiplocRow, rows_with
+from .._extract import Extract
+from .._tables import Table, rows_with
+from ..model import Association as AssociationRow
+from ..model import Header, Location
 
 from . import feed
 from .associations import CATEGORIES, ROLES, Association, LeftOut, Reason, associations_of
@@ -41,7 +44,7 @@ from .services import Services
 from .stops import Stops
 from .trains import Kind, PublicTrain, Record, ScheduleReader
 from .trips import Assembly, Link, TripsOfUid, add_records, plain_trips
-from .user_files import InterchangeRow, LinkRow
+from .user_files import INTERCHANGE, LINKS, InterchangeRow, LinkRow
 from .wanted import ListPlace, wanted_of, write_wanted
 
 
@@ -52,6 +55,21 @@ class UserFiles(NamedTuple):
     operators: Mapping[Key, OperatorRow]
     interchange: Mapping[Key, InterchangeRow]
     links: Mapping[Key, LinkRow]
+
+
+def user_files(
+    places: Optional[str],
+    operators: Optional[str],
+    interchange: Optional[str],
+    links: Optional[str],
+) -> UserFiles:
+    """What the files of the user have, as far as there are any."""
+    return UserFiles(
+        read_file(PLACES, places),
+        read_operators(operators),
+        read_file(INTERCHANGE, interchange),
+        read_file(LINKS, links),
+    )
 
 
 class Outputs(NamedTuple):
@@ -116,7 +134,7 @@ def spots_of(associations: List[Association]) -> Dict[str, Set[Spot]]:
 def read_timetable(extract: Extract, given: Mapping[Key, PlaceRow]) -> Iterator[Timetable]:
     header = extract.header()
     window = Window(header.first_date, header.last_date)
-    places = Places(extract.rows("tiplocs", TiplocRow), given)
+    places = Places(extract.rows("tiplocs", Location), given)
     associations = associations_of(extract.rows("associations", AssociationRow), window)
     with scratch_file() as file:
         with extract.table("schedules") as table:

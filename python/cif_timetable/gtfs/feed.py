@@ -12,7 +12,7 @@ from typing import IO, Dict, Iterable, Iterator, List, Mapping, NamedTuple, Sequ
 from ..user_csv import Key, csv_cell
 from ..days import WEEKDAYS, Dates
 from .._files import BLOCK, scratch_file
-from .._tables import Header
+from ..model import Header
 
 from .routes import Ends, Routes
 from .services import Services
@@ -189,9 +189,9 @@ class Publisher(NamedTuple):
 
 
 def feed_info_row(header: Header, publisher: Publisher) -> Row:
-    dates = [date.replace("-", "") for date in (header.first_date, header.last_date)]
+    dates = [f"{day:%Y%m%d}" for day in (header.first_date, header.last_date)]
     version = (header.current_reference, header.extract_date, header.extract_time)
-    words = " ".join(filter(None, (word.strip() for word in version)))
+    words = " ".join(filter(None, (word.strip() for word in version if word)))
     about = (publisher.name, publisher.url, LANGUAGE, LANGUAGE)
     return (*about, *dates, words, publisher.email)
 

@@ -5,6 +5,7 @@ from enum import Enum
 from operator import itemgetter
 from typing import Dict, Iterable, Iterator, List, Mapping, NamedTuple, Optional, Tuple
 
+from ..errors import Unexpected
 from ..days import Dates, Window, count_of
 from ..riders import is_for_riders
 from .._schedules import calls_by_schedule
@@ -80,7 +81,8 @@ class ScheduleReader:
     """Reads rows of `schedules`."""
 
     def __init__(self, names: List[str], window: Window, types: Mapping[Kind, int]) -> None:
-        assert names[: len(FIRST)] == FIRST, "a table of schedules begins with their dates"
+        if names[: len(FIRST)] != FIRST:
+            raise Unexpected("cif writes another table of schedules: is it another release?")
         others = names[len(FIRST) :]
         self.shown_at = itemgetter(*map(others.index, SHOWN))
         self.sort_at = itemgetter(*map(others.index, SORT))

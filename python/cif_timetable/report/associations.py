@@ -1,26 +1,24 @@
 """Which associations differ, and on which dates."""
 from __future__ import annotations
 
-from typing import Dict, Iterable, Iterator, List, NamedTuple, Tuple
+from typing import Dict, Iterator, List, Mapping, NamedTuple, Sequence, Tuple
 
-from ..days import Dates
-
-from .differences import ASSOCIATION_TERMS, Part, Record, Sides, Terms
-from .journeys import text_of
+from ..days import Dates, Window
+from ..model import Association
+from .differences import NEW, OLD, AssociationKey, OwnDates, Part, Place, Sides
 from .words import CHANGED, GONE, NEW_ONE, new_for_old
 
-BASE = slice(5, 11)
-ASSOCIATED = slice(11, 17)
-LOCATION = slice(39, 46)
-SUFFIXES = slice(46, 48)
 BODY_FIELDS = {
-    "category": slice(36, 38),
-    "date indicator": slice(38, 39),
-    "diagram type": slice(48, 49),
-    "association type": slice(49, 50),
+    "category": "category",
+    "date_indicator": "date indicator",
+    "diagram_type": "diagram type",
+    "association_type": "association type",
 }
+# Nothing else of an association is shown.
+NOWHERE = Place(0, 0)
 
-Key = Tuple[bytes, bytes, bytes, bytes]
+# The values of these fields.
+Body = Tuple[str, ...]
 
 
 class AssociationChange(NamedTuple):
@@ -35,40 +33,51 @@ class AssociationChange(NamedTuple):
     dates: Dates
 
 
-def key_of(text: bytes) -> Key:
-    return text[BASE], text[ASSOCIATED], text[LOCATION], text[SUFFIXES]
+def key_of(association: Association) -> AssociationKey:
+    suffixes = association.base_suffix or "", association.associated_suffix or ""
+    texts = (association.base_uid, association.associated_uid, association.location, *suffixes)
+    return tuple(text.encode() for text in texts)
 
 
-def body_of(text: bytes) -> bytes:
-    """The body, each field in its columns."""
-    return b"".join(text[columns] for columns in BODY_FIELDS.values())
+def body_of(association: Association) -> Body:
+    return tuple((getattr(association, field) or "").strip() for field in BODY_FIELDS)
 
 
-def association_changes(records: Iterable[Record], terms: Terms) -> List[AssociationChange]:
+def association_changes(
+    differing: Mapping[AssociationKey, OwnDates],
+    old: Sequence[Association],
+    new: Sequence[Association],
+    window: Window,
+) -> List[AssociationChange]:
     """The changes key by key."""
-    found: Dict[Key, Sides] = {}
-    for record in records:
-        dates = terms.dates(record.text[ASSOCIATION_TERMS])
-        sides = found.setdefault(key_of(record.text), Sides())
-        sides.add(record.side, body_of(record.text), record.place, dates)
+    found: Dict[AssociationKey, Sides[Body]] = {key: Sides() for key in differing}
+    for side, associations in (OLD, old), (NEW, new):
+        for association in associations:
+            key = key_of(association)
+            if key in found:
+                own = differing[key].old if side == OLD else differing[key].new
+                terms = (str(association.first_date), str(association.last_date))
+                dates = window.dates(*(text.encode() for text in (*terms, association.days_run)))
+                if dates & own:
+                    found[key].add(side, body_of(association), NOWHERE, dates & own)
     return [change for key, sides in found.items() for change in changes_of(key, sides)]
 
 
-def changes_of(key: Key, sides: Sides) -> Iterator[AssociationChange]:
+def changes_of(key: AssociationKey, sides: Sides[Body]) -> Iterator[AssociationChange]:
     """Dates with the same difference are one change."""
     dates: Dict[Tuple[str, str, str], Dates] = {}
     for part in sides.parts():
         terms = terms_of(part)
         dates[terms] = dates.get(terms, 0) | part.dates
-    base, associated = (uid.decode("ascii", "replace") for uid in key[:2])
+    base, associated, location = (cell.decode() for cell in key[:3])
     for (category, kind, text), of_change in dates.items():
-        yield AssociationChange(base, associated, text_of(key[2]), category, kind, text, of_change)
+        place = location.strip()
+        yield AssociationChange(base, associated, place, category, kind, text, of_change)
 
 
-def terms_of(part: Part) -> Tuple[str, str, str]:
+def terms_of(part: Part[Body]) -> Tuple[str, str, str]:
     """The category, the kind of change, and its words."""
-    said = (part.new or part.old)[0]
-    category = text_of(said.body[:2])
+    [category, *_] = (part.new or part.old)[0].body
     if not part.old:
         return category, NEW_ONE, ""
     if not part.new:
@@ -76,11 +85,7 @@ def terms_of(part: Part) -> Tuple[str, str, str]:
     return category, CHANGED, "; ".join(differences(part.old[0].body, part.new[0].body))
 
 
-def differences(old: bytes, new: bytes) -> Iterator[str]:
-    at = 0
-    for name, columns in BODY_FIELDS.items():
-        end = at + columns.stop - columns.start
-        was, now = text_of(old[at:end]), text_of(new[at:end])
+def differences(old: Body, new: Body) -> Iterator[str]:
+    for name, was, now in zip(BODY_FIELDS.values(), old, new):
         if was != now:
             yield new_for_old(name, now, was)
-        at = end

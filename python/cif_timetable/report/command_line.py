@@ -6,7 +6,8 @@ import io
 from pathlib import Path
 from typing import Optional, Sequence
 
-from .._arguments import add_cif, add_help, add_names, add_window, new_parser
+from .._arguments import add_cif, add_help, add_names, add_reading, new_parser
+from .._arguments import preparing_of, request_of
 from .._process import find_cif
 from ..user_csv import read_file
 from ..errors import SUCCESS, Misused, Refused
@@ -18,7 +19,7 @@ from .._running import leave_cycles, run
 
 from .comparison import compare, numbers_of
 from .days import Calendar
-from .differences import Copy
+from .differences import Bodies
 from .page import page_of
 from .pair import Asked, Pair, open_pair
 from .report import Report
@@ -33,8 +34,9 @@ LONGEST_NAME = 100
 
 ABOUT = """\
 Shows on one HTML page how two CIF timetable extracts differ on the dates that
-both have. Beside it, a CSV file has every change in rows. Each extract has to
-be one that `cif normalise` accepts.
+both have. Beside it, a CSV file has every change in rows. Each extract is as it
+is published or as `cif prepare` writes it. It may be compressed by gzip, or the
+only one in a zip.
 """
 STATUSES = """\
 statuses:
@@ -60,7 +62,7 @@ def title(text: str) -> str:
 def arguments_of(words: Optional[Sequence[str]]) -> argparse.Namespace:
     parser = new_parser(PROGRAM, ABOUT, STATUSES)
     add = parser.add_argument
-    add_window(parser)
+    add_reading(parser)
     add_names(parser)
     add("--title", type=title, metavar="TEXT", help="the title of the page")
     add(
@@ -106,7 +108,7 @@ class Outputs:
         self.rows = output_path(str(self.page.with_suffix(".csv")))
         if self.rows == self.page:
             raise Misused(f"{asked.output}: the CSV file would take the place of the page")
-        others = (asked.places, asked.operators)
+        others = (asked.places, asked.operators, asked.holidays)
         check_inputs_stay((self.page, self.rows), (asked.old, asked.new), others)
         check_rows(self.rows)
 
@@ -126,12 +128,13 @@ def write_report(asked: argparse.Namespace, progress: Progress) -> int:
     """The status, after the page and the CSV file are written."""
     outputs = Outputs(asked)
     cif = find_cif(asked.cif)
-    dates = Asked(asked.old, asked.new, asked.first, asked.last)
-    with open_pair(cif, dates) as pair, scratch_file() as file:
-        names, copy = names_of(asked, pair), Copy(file)
-        comparison = compare(cif, pair, names, copy, progress)
+    old, new = (preparing_of(asked, name) for name in (asked.old, asked.new))
+    extracts = Asked(old, new, request_of(asked, asked.old).window())
+    with open_pair(cif, extracts) as pair, scratch_file() as file:
+        names, bodies = names_of(asked, pair), Bodies(file)
+        comparison = compare(pair, names, bodies, progress)
         calendar, numbers = Calendar(pair.window), numbers_of(comparison)
-        report = Report(pair, comparison, numbers, calendar, names, copy, outputs.rows.name)
+        report = Report(pair, comparison, numbers, calendar, names, bodies, outputs.rows.name)
         progress.show("writing")
         with new_files() as files:
             page = files.create(outputs.page)

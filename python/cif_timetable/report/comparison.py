@@ -3,26 +3,21 @@ from __future__ import annotations
 
 from collections import deque
 from itertools import chain
-from typing import Deque, Dict, Iterator, List, NamedTuple, Sequence, Tuple
+from typing import Deque, Dict, Iterator, List, Mapping, NamedTuple, Sequence, Tuple
 
-from .._process import Cif
 from ..days import Dates, Window, count_of
 from .._progress import Progress
 
+from ..model import Association
 from .associations import AssociationChange, association_changes
 from .days import DateCounts
-from .differences import ByDates, Copy, Part, Place, Record, Said, Sides, Terms
-from .differences import by_train, digest_of_journey, records_of
-from .journeys import Body, body_of, text_of
+from .differences import NEW, OLD, Bodies, ByDates, Differences, OwnDates, Part, Place, Said, Sides
+from .differences import digest_of_journey
+from .journeys import Body, OwnSchedule, bodies_of, body_of, text_of
 from .locations import LocationChange, location_changes
 from .pair import Pair
 from .schedules import Schedules, read_schedules
 from .words import CANCELLED, DATA, GONE_FOR_GOOD, KINDS, NUMBERS, RUNS, Names, Phrase, phrases_of
-
-LOCATION = b"TI"
-ASSOCIATION = b"AA"
-# The columns of a schedule before its body, which `body_of` doesn't read.
-TERMS = b" " * 31
 
 
 class Face(NamedTuple):
@@ -133,7 +128,7 @@ def face_of(body: Body) -> Face:
 
 
 class Reading:
-    """Reads the trains of what `cif diff` writes, and then matches those under another UID."""
+    """Reads the trains that differ, and then matches those under another UID."""
 
     def __init__(self, names: Names) -> None:
         self.names = names
@@ -142,13 +137,13 @@ class Reading:
         self.faces: Dict[Face, Face] = {}
         self.phrases: Dict[Tuple[Phrase, ...], Tuple[Phrase, ...]] = {}
 
-    def add(self, uid: bytes, sides: Sides) -> None:
+    def add(self, uid: bytes, sides: Sides[bytes]) -> None:
         parts = sides.parts()
         bodies: Dict[Place, Body] = {}
 
-        def read(said: Said) -> Body:
+        def read(said: Said[bytes]) -> Body:
             if said.place not in bodies:
-                bodies[said.place] = body_of(TERMS + said.body)
+                bodies[said.place] = body_of(said.body)
             return bodies[said.place]
 
         shown = [said for part in parts for said in part.new] or list(parts[0].old)
@@ -163,13 +158,13 @@ class Reading:
             else:
                 self.add_alone(draft, part)
 
-    def add_alone(self, draft: Draft, part: Part) -> None:
+    def add_alone(self, draft: Draft, part: Part[bytes]) -> None:
         [said] = part.old or part.new
         journeys = draft.lost if part.old else draft.added
         alone = Alone(part.dates, said.place)
         journeys.setdefault(digest_of_journey(said.body), []).append(alone)
 
-    def match(self, copy: Copy) -> None:
+    def match(self, texts: Bodies) -> None:
         """What one train has lost and another got, with the same journey and dates, is one train
         under another UID, whatever other data differ on which of the dates."""
         added: Dict[Tuple[bytes, Dates], Deque[bytes]] = {}
@@ -183,16 +178,16 @@ class Reading:
                     other = found.popleft()
                     lost, got = draft.lost.pop(journey), self.drafts[other].added.pop(journey)
                     own = f"UID {other.decode().strip()} for {uid.decode().strip()}"
-                    self.renumber(draft, own, lost, got, copy)
+                    self.renumber(draft, own, lost, got, texts)
 
     def renumber(
-        self, draft: Draft, own: str, lost: List[Alone], got: List[Alone], copy: Copy
+        self, draft: Draft, own: str, lost: List[Alone], got: List[Alone], bodies: Bodies
     ) -> None:
         """Adds what is different under the other UID, by the bodies of each date."""
         after = ByDates(got)
         for was in lost:
             for now in after.on_any(was.dates):
-                old, new = (body_of(copy.text(each.place)) for each in (was, now))
+                old, new = (body_of(bodies.text(each.place)) for each in (was, now))
                 more = phrases_of(old, new, self.names) if old != new else ()
                 phrases = (Phrase(NUMBERS, "renumbered", own), *more)
                 draft.alter(phrases, was.dates & now.dates, was.place, now.place)
@@ -232,33 +227,56 @@ def all_dates(parts: Sequence[Alone]) -> Dates:
 
 # ---- both extracts
 
+# Schedules, each with the text of its body.
+Bodied = Iterator[Tuple[OwnSchedule, bytes]]
 
-def compare(cif: Cif, pair: Pair, names: Names, copy: Copy, progress: Progress) -> Comparison:
+
+def read_trains(
+    trains: Mapping[bytes, OwnDates], sides: Mapping[bytes, Bodied], bodies: Bodies
+) -> Iterator[Tuple[bytes, Sides[bytes]]]:
+    """The trains that differ, each with the bodies on these dates. Either extract has them in the
+    order of `trains`."""
+    awaited = {side: next(found, None) for side, found in sides.items()}
+    for uid in trains:
+        said: Sides[bytes] = Sides()
+        for side, found in sides.items():
+            following = awaited[side]
+            while following is not None and following[0].uid == uid:
+                schedule, text = following
+                said.add(side, text, bodies.add(text), schedule.dates)
+                following = next(found, None)
+            awaited[side] = following
+        yield uid, said
+
+
+def compare(pair: Pair, names: Names, bodies: Bodies, progress: Progress) -> Comparison:
     """All changes on the dates of the common window."""
-    terms = Terms(pair.window)
-    reading = Reading(names)
-    before: Dict[bytes, List[Record]] = {LOCATION: [], ASSOCIATION: []}
+    found = Differences()
     progress.show("comparing")
-    with pair.difference(cif) as lines:
-        records = records_of(lines, copy.file)
-        for record in records:
-            if record.kind not in before:
-                # the first schedule: all others are behind it
-                records = chain([record], records)
-                break
-            before[record.kind].append(record)
-        for uid, sides in by_train(records, terms):
-            reading.add(uid, sides)
-    reading.match(copy)
+    with pair.difference() as table:
+        found.read(table, pair.window)
+    associations: List[AssociationChange] = []
+    if found.associations:
+        before, after = (
+            side.extract.rows("associations", Association) for side in (pair.old, pair.new)
+        )
+        associations = association_changes(found.associations, before, after, pair.window)
     progress.show("counting trains")
-    associations = association_changes(before[ASSOCIATION], terms)
     linked = (uid for each in associations for uid in (each.base, each.associated))
-    wanted = {*reading.drafts, *(uid.encode() for uid in linked)}
-    old, new = (read_schedules(side.extract, pair.window, wanted) for side in (pair.old, pair.new))
+    wanted = {*found.trains, *(uid.encode() for uid in linked)}
+    old_dates = {uid: own.old for uid, own in found.trains.items()}
+    new_dates = {uid: own.new for uid, own in found.trains.items()}
+    old = read_schedules(pair.old.extract, pair.window, wanted, old_dates)
+    new = read_schedules(pair.new.extract, pair.window, wanted, new_dates)
+    progress.show("reading what differs")
+    reading = Reading(names)
+    sides = {OLD: bodies_of(pair.old.extract, old.own), NEW: bodies_of(pair.new.extract, new.own)}
+    for uid, said in read_trains(found.trains, sides, bodies):
+        reading.add(uid, said)
+    reading.match(bodies)
     trains = reading.trains(old, new)
-    return Comparison(
-        pair.window, old, new, trains, associations, location_changes(before[LOCATION])
-    )
+    locations = location_changes(found.tiplocs, pair.old.tiplocs, pair.new.tiplocs)
+    return Comparison(pair.window, old, new, trains, associations, locations)
 
 
 # ---- numbers

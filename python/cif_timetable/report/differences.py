@@ -1,103 +1,131 @@
-"""What `cif diff` says, record by record, and what that means for a train on each date."""
+"""On which dates two extracts say something else, and what that means for a train or an association on
+each date."""
 from __future__ import annotations
 
 import os
-import re
 from hashlib import blake2b
-from typing import IO, Dict, Generic, Iterator, List, NamedTuple, Protocol, Sequence, Tuple, TypeVar
+from typing import (
+    IO,
+    Dict,
+    Generic,
+    Hashable,
+    Iterator,
+    List,
+    NamedTuple,
+    Protocol,
+    Sequence,
+    Tuple,
+)
+from typing import TypeVar
 
+from .._tables import Table
 from ..days import Dates, Window
-from .._files import BLOCK
+from ..errors import Unexpected
 
 OLD = b"<"
 NEW = b">"
+# Two records with the same dates, which have a row for each field that differs.
+BOTH = b"<>"
+SIDES = {OLD: (OLD,), NEW: (NEW,), BOTH: (OLD, NEW)}
+LOCATION = b"TI"
+SCHEDULE = b"BS"
+# The first fields of the table of differences, which tell one record from another.
+FIELDS = "change kind tiploc uid associated_uid location base_suffix associated_suffix".split()
+FIELDS += "first_date last_date days_run".split()
+NO_PAIR = b"\n"
 
-# Where a record begins, behind its mark and a space; its columns begin behind those.
-START = re.compile(rb"^[<>] (?:TI|AA|BS)", re.MULTILINE)
-KIND = slice(2, 4)
-UID = slice(5, 11)
-SCHEDULE_TERMS = slice(11, 30)
-SCHEDULE_BODY = slice(31, None)
-ASSOCIATION_TERMS = slice(17, 36)
+# What tells an association from others: both UIDs, the location, and both suffixes.
+AssociationKey = Tuple[bytes, ...]
+
+
+class OwnDates:
+    """The dates on which each of the extracts alone says something."""
+
+    __slots__ = ("old", "new")
+
+    def __init__(self) -> None:
+        self.old: Dates = 0
+        self.new: Dates = 0
+
+    def add(self, change: bytes, dates: Dates) -> None:
+        if change != NEW:
+            self.old |= dates
+        if change != OLD:
+            self.new |= dates
+
+
+class Differences:
+    """Which trains and associations differ, each with its dates, and which places."""
+
+    def __init__(self) -> None:
+        self.trains: Dict[bytes, OwnDates] = {}
+        self.associations: Dict[AssociationKey, OwnDates] = {}
+        self.tiplocs: List[bytes] = []
+
+    def read(self, table: Table, window: Window) -> None:
+        """Reads what `cif diff` writes. The rows of one pair of records follow one another."""
+        if table.names[: len(FIELDS)] != FIELDS:
+            raise Unexpected("cif writes another table of differences: is it another release?")
+        pair = NO_PAIR
+        for line in table.lines:
+            if line.startswith(pair):
+                continue
+            change, kind, tiploc, *key, first, last, days_run, _ = line.split(b"\t", len(FIELDS))
+            pair = NO_PAIR
+            if change == BOTH:
+                pair = b"\t".join((change, kind, tiploc, *key, first, last, days_run, b""))
+            if kind == LOCATION:
+                self.tiplocs.append(tiploc)
+            elif kind == SCHEDULE:
+                dates = window.dates(first, last, days_run)
+                self.trains.setdefault(key[0], OwnDates()).add(change, dates)
+            else:
+                dates = window.dates(first, last, days_run)
+                self.associations.setdefault(tuple(key), OwnDates()).add(change, dates)
 
 
 class Place(NamedTuple):
-    """Where a record stands in what `cif diff` has written."""
+    """Where a body stands in the file of all."""
 
     at: int
     length: int
 
 
-class Record(NamedTuple):
-    """The lines of a record, each behind a mark."""
-
-    text: bytes
-    place: Place
-
-    @property
-    def kind(self) -> bytes:
-        return self.text[KIND]
-
-    @property
-    def side(self) -> bytes:
-        return self.text[:1]
-
-
-def records_of(stream: IO[bytes], copy: IO[bytes]) -> Iterator[Record]:
-    """The records as they come, cut from blocks, which are copied."""
-    rest = b""
-    at = 0
-    for block in iter(lambda: stream.read(BLOCK), b""):
-        copy.write(block)
-        text = rest + block
-        starts = [found.start() for found in START.finditer(text)]
-        for start, end in zip(starts, starts[1:]):
-            yield Record(text[start:end], Place(at + start, end - start))
-        last = starts[-1] if starts else 0
-        at += last
-        rest = text[last:]
-    if rest:
-        yield Record(rest, Place(at, len(rest)))
-
-
-class Copy:
-    """What `cif diff` has written, in a temporary file."""
+class Bodies:
+    """The bodies of trains, in a temporary file."""
 
     def __init__(self, file: IO[bytes]) -> None:
         self.file = file
+        self.size = 0
+
+    def add(self, text: bytes) -> Place:
+        place = Place(self.size, len(text))
+        self.file.write(text)
+        self.size += len(text)
+        return place
 
     def text(self, place: Place) -> bytes:
         self.file.flush()
         return os.pread(self.file.fileno(), place.length, place.at)
 
 
-class Terms:
-    """Reads the dates of records: first, last, and days run, as columns."""
-
-    def __init__(self, window: Window) -> None:
-        self.window = window
-        self.of_columns = {
-            day.strftime("%y%m%d").encode(): day.isoformat().encode() for day in window.days
-        }
-
-    def dates(self, terms: bytes) -> Dates:
-        first, last = self.of_columns[terms[:6]], self.of_columns[terms[6:12]]
-        return self.window.dates(first, last, terms[12:19])
+# What is said of a train or an association.
+Body = TypeVar("Body", bound=Hashable)
 
 
-class Said(NamedTuple):
-    """A body that one of the extracts alone says, where its first record stands, and the dates."""
+class Said(NamedTuple, Generic[Body]):
+    """A body that one of the extracts alone says, where it stands, and the dates."""
 
-    body: bytes
+    body: Body
     place: Place
     dates: Dates
 
 
-class Part(NamedTuple):
+class Part(NamedTuple, Generic[Body]):
     """The bodies that each of the extracts alone says on these dates, or none."""
 
-    old: Tuple[Said, ...]
-    new: Tuple[Said, ...]
+    old: Tuple[Said[Body], ...]
+    new: Tuple[Said[Body], ...]
     dates: Dates
 
 
@@ -133,21 +161,25 @@ class ByDates(Generic[Item]):
                 yield from half.on_any(dates)
 
 
-class Sides:
+class Sides(Generic[Body]):
     """What each of the extracts alone says of a train or an association."""
 
     def __init__(self) -> None:
-        self.said: Dict[bytes, Dict[bytes, Said]] = {OLD: {}, NEW: {}}
+        self.said: Dict[bytes, Dict[Body, Said[Body]]] = {OLD: {}, NEW: {}}
 
-    def add(self, side: bytes, body: bytes, place: Place, dates: Dates) -> None:
+    def add(self, side: bytes, body: Body, place: Place, dates: Dates) -> None:
         known = self.said[side].get(body)
         if known:
             place, dates = known.place, known.dates | dates
         self.said[side][body] = Said(body, place, dates)
 
-    def parts(self) -> List[Part]:
+    def by_first_date(self, side: bytes) -> ByDates[Said[Body]]:
+        """The bodies of a side, by the first of their dates."""
+        return ByDates(sorted(self.said[side].values(), key=lambda said: said.dates & -said.dates))
+
+    def parts(self) -> List[Part[Body]]:
         """Each date is in one part: the one with the bodies that run on it."""
-        old, new = (ByDates(list(self.said[side].values())) for side in (OLD, NEW))
+        old, new = self.by_first_date(OLD), self.by_first_date(NEW)
         found = [Part((was,), (), was.dates & ~new.dates) for was in old.items]
         found += [
             Part((was,), (now,), was.dates & now.dates)
@@ -158,22 +190,6 @@ class Sides:
         return [part for part in found if part.dates]
 
 
-def by_train(records: Iterator[Record], terms: Terms) -> Iterator[Tuple[bytes, Sides]]:
-    """The trains, each with what is said of it."""
-    uid = b""
-    sides = Sides()
-    for record in records:
-        if record.text[UID] != uid:
-            if uid:
-                yield uid, sides
-            uid, sides = record.text[UID], Sides()
-        dates = terms.dates(record.text[SCHEDULE_TERMS])
-        sides.add(record.side, record.text[SCHEDULE_BODY], record.place, dates)
-    if uid:
-        yield uid, sides
-
-
-def digest_of_journey(record: bytes) -> bytes:
-    """What tells the journey from others: its lines from LO to LT without their marks."""
-    lines = record[record.index(b" LO") :].replace(b"\n>", b"\n<")
-    return blake2b(lines, digest_size=16).digest()
+def digest_of_journey(body: bytes) -> bytes:
+    """What tells the journey from others: all but the line with what is said of the train."""
+    return blake2b(body[body.index(b"\n") :], digest_size=16).digest()

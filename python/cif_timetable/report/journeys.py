@@ -1,32 +1,33 @@
-"""The lines of a schedule, as `cif diff` writes them, and which calls of two journeys belong
+"""The journey of a train, as the tables of `cif` have it, and which calls of two journeys belong
 together."""
 from __future__ import annotations
 
 from collections import Counter
 from functools import lru_cache
 from itertools import takewhile
-from struct import Struct
 from typing import Counter as CounterOf
 from typing import Dict, Iterable, Iterator, List, NamedTuple, Optional, Sequence, Tuple
 
-# Each line has a mark and a space before its columns, such as `< LO`.
-MARK = 2
+from .._extract import Extract
+from .._schedules import calls_by_schedule, numbered
+from .._tables import calls_of
+from ..days import Dates
+from ..errors import Unexpected
 
-# The fields behind the days run, and those of BX, with their columns.
+# The fields of `schedules`: those that say which it is, those of BS, and those of BX.
+TERMS_FIELDS = "schedule uid first_date last_date days_run".split()
 BASIC = "status category identity headcode course service_code sector power timing_load speed"
 BASIC += " characteristics class sleepers reservations connection catering branding"
 BASIC_FIELDS = BASIC.split()
-BASIC_COLUMNS = Struct("31x s 2s 4s 4s s 8s s 3s 4s 3s 6s s s s s 4s 4s 2x".replace(" ", ""))
 EXTRA_FIELDS = "traction uic operator timetable_code reserved_a reserved_b".split()
-EXTRA_COLUMNS = Struct("4x 4s 5s 2s s 8s s 57x".replace(" ", ""))
-
-ORIGIN = Struct("2x 2s 7s s 5s 4s 3s 3s 2s 2s 12s 2s 37x".replace(" ", ""))
-WAY = Struct("2x 2s 7s s 5s 5s 5s 4s 4s 3s 3s 3s 12s 2s 2s 2s 20x".replace(" ", ""))
-TERMINUS = Struct("2x 2s 7s s 5s 4s 3s 3s 12s 43x".replace(" ", ""))
+# Whether there is a BX.
+HAS_EXTRA = b"BX"
+# After the calls of a body, before its changes en route.
+END_OF_CALLS = b"\0"
 
 
 class Call(NamedTuple):
-    """A call, or a pass, with its columns as they stand. Those that its line hasn't are empty."""
+    """A call, or a pass, with its cells in `calls`."""
 
     kind: bytes
     location: bytes
@@ -54,36 +55,16 @@ class Call(NamedTuple):
         return tuple(map(half_minutes, (self.arrival, self.passing, self.departure)))
 
 
+# Their names there, of which Python can't take one.
+TABLE_FIELDS = tuple({"kind": "record", "passing": "pass"}.get(name, name) for name in Call._fields)
+
+
 @lru_cache(maxsize=None)
 def half_minutes(time: bytes) -> Optional[int]:
     """A working time as half minutes of the day by the clock."""
     if not time.strip():
         return None
     return int(time[:2]) * 120 + int(time[2:4]) * 2 + (time[4:5] == b"H")
-
-
-def origin_of(line: bytes) -> Call:
-    (
-        kind,
-        place,
-        suffix,
-        leaves,
-        public,
-        platform,
-        track,
-        *allowances,
-        codes,
-        performance,
-    ) = ORIGIN.unpack(line)
-    times = (b"", leaves, b"", b"", public)
-    after = (platform, track, b"", codes, *allowances, performance)
-    return Call(kind, place, suffix, *times, *after)
-
-
-def terminus_of(line: bytes) -> Call:
-    kind, place, suffix, arrives, public, platform, path, codes = TERMINUS.unpack(line)
-    times = (arrives, b"", b"", public, b"")
-    return Call(kind, place, suffix, *times, platform, b"", path, codes, b"", b"", b"")
 
 
 class Body(NamedTuple):
@@ -105,29 +86,60 @@ class Body(NamedTuple):
 
 
 @lru_cache(maxsize=100_000)
-def text_of(columns: bytes) -> str:
-    return columns.decode("ascii", "replace").strip()
+def text_of(cell: bytes) -> str:
+    return cell.decode("ascii", "replace").strip()
 
 
-def body_of(record: bytes) -> Body:
-    """The body that a schedule's lines have."""
-    lines = record.splitlines()
-    extra: Optional[Tuple[bytes, ...]] = None
-    calls: List[Call] = []
-    changes: List[Tuple[int, bytes]] = []
-    for line in lines[1:]:
-        kind = line[MARK : MARK + 2]
-        if kind == b"LI":
-            calls.append(Call._make(WAY.unpack(line)))
-        elif kind == b"LO":
-            calls.append(origin_of(line))
-        elif kind == b"LT":
-            calls.append(terminus_of(line))
-        elif kind == b"CR":
-            changes.append((len(calls), line[MARK:]))
-        else:
-            extra = EXTRA_COLUMNS.unpack(line)
-    return Body(BASIC_COLUMNS.unpack(lines[0]), extra, calls, changes)
+def body_of(text: bytes) -> Body:
+    """The body of a text: a line of what is said of the train, its calls, and its changes."""
+    about, _, rows = text.partition(b"\n")
+    calls, _, changes = rows.partition(END_OF_CALLS)
+    cells = about.split(b"\t")
+    count = len(BASIC_FIELDS)
+    return Body(
+        tuple(cells[:count]),
+        tuple(cells[count + 1 :]) if cells[count] == HAS_EXTRA else None,
+        [Call._make(row.split(b"\t")[1:]) for row in calls.splitlines()],
+        [(int(number) - 1, row) for number, _, row in map(parted, changes.splitlines())],
+    )
+
+
+def parted(row: bytes) -> Tuple[bytes, bytes, bytes]:
+    return row.partition(b"\t")
+
+
+class OwnSchedule(NamedTuple):
+    """A schedule that runs on dates on which the other extract says something else: its number, its
+    train, these dates, and the rest of its row."""
+
+    number: bytes
+    uid: bytes
+    dates: Dates
+    about: bytes
+
+
+def bodies_of(
+    extract: Extract, schedules: Sequence[OwnSchedule]
+) -> Iterator[Tuple[OwnSchedule, bytes]]:
+    """Some schedules of an extract, in its order, each with the text of its body."""
+    if not schedules:
+        return
+    numbers = dict.fromkeys(schedule.number for schedule in schedules)
+    with extract.table("changes") as table:
+        changes = {
+            number: numbered(number, text)
+            for number, text in calls_by_schedule(table)
+            if number in numbers
+        }
+    with extract.table("calls") as table:
+        if tuple(table.names[2:]) != TABLE_FIELDS:
+            raise Unexpected("cif writes another table of calls: is it another release?")
+        for schedule, (number, text) in zip(schedules, calls_of(table.lines, numbers)):
+            if schedule.number != number:
+                raise Unexpected("cif writes a schedule without calls: is it another release?")
+            calls = numbered(number, text)
+            parts = (schedule.about, b"\n", calls, END_OF_CALLS, changes.get(number, b""))
+            yield schedule, b"".join(parts)
 
 
 # ---- two journeys
@@ -136,7 +148,7 @@ Row = Tuple[Optional[Call], Optional[Call]]
 Pair = Tuple[Call, Call]
 
 
-def numbered(calls: Sequence[Call]) -> Iterator[Tuple[bytes, int]]:
+def visits(calls: Sequence[Call]) -> Iterator[Tuple[bytes, int]]:
     """Each call by its place, and by how often the train has been there before."""
     seen: CounterOf[bytes] = Counter()
     for call in calls:
@@ -165,11 +177,11 @@ def rows_of(old: Sequence[Call], new: Sequence[Call]) -> List[Row]:
 
 
 def rows_between(old: Sequence[Call], new: Sequence[Call]) -> List[Row]:
-    places: Dict[Tuple[bytes, int], int] = {key: at for at, key in enumerate(numbered(old))}
+    places: Dict[Tuple[bytes, int], int] = {key: at for at, key in enumerate(visits(old))}
     rows: List[Row] = []
     done = 0
     added: List[Row] = []
-    for key, call in zip(numbered(new), new):
+    for key, call in zip(visits(new), new):
         at = places.get(key, -1)
         if at < done:
             added.append((None, call))

@@ -1,23 +1,19 @@
 """Which places differ: the TI records that only one extract has."""
 from __future__ import annotations
 
-from struct import Struct
-from typing import Dict, Iterable, Iterator, List, NamedTuple, Tuple
+from typing import Dict, Iterable, Iterator, List, NamedTuple, Optional, Sequence, Tuple
 
-from .differences import OLD, Record
-from .journeys import text_of
+from ..model import Location
 from .words import CHANGED, GONE, NEW_ONE, new_for_old
 
-FIELDS = "tiploc capitals nalco nlc_check tps_description stanox po_mcp crs description".split()
-COLUMNS = Struct("4x 7s 2s 6s s 26s 5s 4s 3s 16s 8x".replace(" ", ""))
 NAMES = {
     "capitals": "capitals",
     "nalco": "NLC",
     "nlc_check": "check of the NLC",
     "tps_description": "name",
     "stanox": "STANOX",
-    "po_mcp": "post office code",
-    "crs": "CRS code",
+    "po_mcp_code": "post office code",
+    "crs_code": "CRS code",
     "description": "short name",
 }
 
@@ -32,22 +28,23 @@ class LocationChange(NamedTuple):
     text: str
 
 
-Location = Dict[str, str]
+def text_in(location: Location, field: str) -> str:
+    value: Optional[str] = getattr(location, field)
+    return (value or "").strip()
 
 
-def location_of(record: Record) -> Location:
-    values = map(text_of, COLUMNS.unpack(record.text[: COLUMNS.size]))
-    return dict(zip(FIELDS, values))
-
-
-def location_changes(records: Iterable[Record]) -> List[LocationChange]:
-    """The changes TIPLOC by TIPLOC."""
-    found: Dict[str, Tuple[List[Location], List[Location]]] = {}
-    for record in records:
-        location = location_of(record)
-        sides = found.setdefault(location["tiploc"], ([], []))
-        sides[record.side != OLD].append(location)
-    return [change for sides in found.values() for change in changes_of(*sides)]
+def location_changes(
+    tiplocs: Iterable[bytes], old: Sequence[Location], new: Sequence[Location]
+) -> List[LocationChange]:
+    """The changes of some TIPLOCs, of which each extract may have several records."""
+    wanted = dict.fromkeys(tiploc.decode() for tiploc in tiplocs)
+    before, after = set(old), set(new)
+    sides: Dict[str, Tuple[List[Location], List[Location]]] = {name: ([], []) for name in wanted}
+    for locations, others, side in (old, after, 0), (new, before, 1):
+        for location in locations:
+            if location.tiploc in sides and location not in others:
+                sides[location.tiploc][side].append(location)
+    return [change for of_tiploc in sides.values() for change in changes_of(*of_tiploc)]
 
 
 def changes_of(old: List[Location], new: List[Location]) -> Iterator[LocationChange]:
@@ -61,11 +58,13 @@ def changes_of(old: List[Location], new: List[Location]) -> Iterator[LocationCha
 
 
 def change_of(location: Location, kind: str, text: str) -> LocationChange:
-    name = location["tps_description"] or location["description"]
-    return LocationChange(location["tiploc"], name, location["crs"], kind, text)
+    name = text_in(location, "tps_description") or text_in(location, "description")
+    crs = text_in(location, "crs_code")
+    return LocationChange(text_in(location, "tiploc"), name, crs, kind, text)
 
 
 def differences(old: Location, new: Location) -> Iterator[str]:
     for field, name in NAMES.items():
-        if old[field] != new[field]:
-            yield new_for_old(name, new[field], old[field])
+        was, now = text_in(old, field), text_in(new, field)
+        if was != now:
+            yield new_for_old(name, now, was)

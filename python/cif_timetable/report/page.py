@@ -3,7 +3,7 @@ from __future__ import annotations
 
 from typing import Optional
 
-from .. import __version__
+from .. import __version__  # pylint: disable=cyclic-import
 
 from .daily import calendar_section, days_section
 from .others import associations_section, places_section

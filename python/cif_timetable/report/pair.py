@@ -1,31 +1,23 @@
 """The two extracts, and the dates that both have."""
 from __future__ import annotations
 
-import os
 from contextlib import ExitStack, contextmanager
-from datetime import date
-from typing import IO, Iterator, List, NamedTuple, Optional
+from typing import Iterator, List, NamedTuple
 
 from .._process import Cif
 from ..days import Window
-from ..errors import SUCCESS, Failed, Misused
-from .._tables import Extract, Header, TiplocRow, open_extract
-
-# The status of `cif diff` where it finds a difference.
-DIFFERENT = 1
+from ..errors import Failed, Misused
+from .._extract import Extract, Request, difference_of, open_extract, yymmdd
+from .._tables import Table, heading_of
+from ..model import Header, Location
 
 
 class Asked(NamedTuple):
-    """The names of both files, and the dates that were asked for."""
+    """Both extracts, and the dates that were asked for."""
 
-    old: str
-    new: str
-    first: Optional[str]
-    last: Optional[str]
-
-    def words(self) -> List[str]:
-        words = ["--from", self.first] if self.first is not None else []
-        return words + (["--to", self.last] if self.last is not None else [])
+    old: Request
+    new: Request
+    window: List[str]
 
 
 class Side(NamedTuple):
@@ -34,7 +26,7 @@ class Side(NamedTuple):
     extract: Extract
     name: str
     header: Header
-    tiplocs: List[TiplocRow]
+    tiplocs: List[Location]
 
 
 class Pair(NamedTuple):
@@ -46,55 +38,39 @@ class Pair(NamedTuple):
     window: Window
 
     @contextmanager
-    def difference(self, cif: Cif) -> Iterator[IO[bytes]]:
-        """What `cif diff` writes."""
-        with difference_of(cif, self.old.extract, self.new.extract, self.asked) as lines:
-            yield lines
-        for side in self.old, self.new:
-            side.extract.check_state()
+    def difference(self) -> Iterator[Table]:
+        """The table that `cif diff` writes."""
+        words = ["--format", "tsv", *self.asked.window]
+        with difference_of(self.old.extract, self.new.extract, words) as lines:
+            yield heading_of(lines)
 
 
-@contextmanager
-def difference_of(cif: Cif, old: Extract, new: Extract, asked: Asked) -> Iterator[IO[bytes]]:
-    """What `cif diff` writes. Of the files that are copies one is its standard input."""
-    copied = next((each.path for each in (old, new) if each.copied), None)
-    names = ["-" if each.path == copied else each.word for each in (old, new)]
-    words = ["diff", "--common", *asked.words(), "--", *names]
-    with open(copied or os.devnull, "rb") as stdin:
-        with cif.output(words, stdin, (SUCCESS, DIFFERENT)) as lines:
-            yield lines
-
-
-def columns_of(day: str) -> str:
-    return date.fromisoformat(day).strftime("%y%m%d")
-
-
-def common_window(cif: Cif, old: Extract, new: Extract, asked: Asked) -> Window:
+def common_window(old: Extract, new: Extract, asked: Asked) -> Window:
     """The dates that both have, and that are asked for; `cif` refuses what can't be."""
     for extract in old, new:
-        extract.words = asked.words()
+        extract.words = asked.window
     headers = old.header(), new.header()
     first = max(header.first_date for header in headers)
     last = min(header.last_date for header in headers)
     if first > last:
-        with difference_of(cif, old, new, asked) as lines:
+        with difference_of(old, new, asked.window) as lines:
             lines.read()
         raise Failed("the extracts have no date in common")
     for extract in old, new:
-        extract.words = ["--from", columns_of(first), "--to", columns_of(last)]
+        extract.words = ["--from", yymmdd(first), "--to", yymmdd(last)]
     return Window(first, last)
 
 
 @contextmanager
 def open_pair(cif: Cif, asked: Asked) -> Iterator[Pair]:
-    if asked.old == asked.new == "-":
+    if asked.old.name == asked.new.name == "-":
         raise Misused("only one of the extracts can be standard input")
     with ExitStack() as stack:
-        old, new = (stack.enter_context(open_extract(cif, name)) for name in (asked.old, asked.new))
+        old, new = (stack.enter_context(open_extract(cif, each)) for each in (asked.old, asked.new))
         headers = old.header(), new.header()
-        window = common_window(cif, old, new, asked)
+        window = common_window(old, new, asked)
         before, after = (
-            Side(extract, name, header, extract.rows("tiplocs", TiplocRow))
-            for extract, name, header in zip((old, new), (asked.old, asked.new), headers)
+            Side(extract, extract.request.name, header, extract.rows("tiplocs", Location))
+            for extract, header in zip((old, new), headers)
         )
         yield Pair(before, after, asked, window)

@@ -5,7 +5,7 @@ from typing import Dict, List, NamedTuple
 
 from .comparison import Comparison, Numbers
 from .days import Calendar
-from .differences import Copy
+from .differences import Bodies
 from .pair import Pair
 from .words import Names
 
@@ -18,7 +18,7 @@ class Report(NamedTuple):
     numbers: Numbers
     calendar: Calendar
     names: Names
-    copy: Copy
+    bodies: Bodies
     csv_name: str
 
 

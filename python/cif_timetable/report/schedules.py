@@ -1,66 +1,52 @@
-"""How many trains an extract has on each date, by operator."""
+"""How many trains an extract has on each date, by operator, and the schedules that only it has."""
 from __future__ import annotations
 
-from array import array
-from itertools import accumulate
-from operator import itemgetter
-from typing import Container, Dict, List, NamedTuple, Tuple
+from typing import Container, Dict, List, Mapping, NamedTuple
 
-from ..days import Window
-from .._tables import Extract
+from .._extract import Extract
+from ..days import Dates, TrainsPerDay, Window
+from ..errors import Unexpected
+from .journeys import BASIC_FIELDS, TERMS_FIELDS, OwnSchedule
 
-FIELDS = ("uid", "first_date", "last_date", "days_run", "operator_code", "identity")
+IDENTITY = BASIC_FIELDS.index("identity")
 
 
 class Schedules(NamedTuple):
-    """The trains of each operator on each date, how many trains there are, and of those that were
-    asked for the ones that run, each with its identity."""
+    """The trains of each operator on each date, how many trains there are, of those that were asked
+    for the ones that run, each with its identity, and the schedules on own dates of a train."""
 
     trains_per_day: Dict[str, List[int]]
     trains: int
     found: Dict[bytes, str]
+    own: List[OwnSchedule]
 
 
-class TrainsPerDay:
-    """Counts by operator and days run, as those run on all dates from the first to the last."""
-
-    def __init__(self, window: Window) -> None:
-        self.window = window
-        # how many more there are than on the date before
-        self.changes: Dict[Tuple[bytes, bytes], "array[int]"] = {}
-
-    def add(self, operator: bytes, days_run: bytes, first: bytes, last: bytes) -> None:
-        changes = self.changes.get((operator, days_run))
-        if changes is None:
-            changes = array("l", bytes(8 * (len(self.window.days) + 1)))
-            self.changes[operator, days_run] = changes
-        changes[self.window.numbers[first]] += 1
-        changes[self.window.numbers[last] + 1] -= 1
-
-    def by_operator(self) -> Dict[str, List[int]]:
-        found: Dict[str, List[int]] = {}
-        for (operator, days_run), changes in sorted(self.changes.items()):
-            counts = found.setdefault(operator.decode(), [0] * len(self.window.days))
-            for number, trains in enumerate(accumulate(changes[:-1])):
-                if days_run[self.window.days[number].weekday()] == ord("1"):
-                    counts[number] += trains
-        return found
-
-
-def read_schedules(extract: Extract, window: Window, wanted: Container[bytes]) -> Schedules:
-    """Counts the schedules of an extract."""
-    counter = TrainsPerDay(window)
+def read_schedules(
+    extract: Extract, window: Window, wanted: Container[bytes], own_dates: Mapping[bytes, Dates]
+) -> Schedules:
+    """Reads the schedules of an extract. Of some trains there are dates on which it alone says what
+    they do."""
+    counter: TrainsPerDay[bytes] = TrainsPerDay(window)
     found: Dict[bytes, str] = {}
+    own: List[OwnSchedule] = []
     uids = 0
     before = b""
     with extract.table("schedules") as table:
-        cells_of = itemgetter(*(table.names.index(field) for field in FIELDS))
+        if table.names[: len(TERMS_FIELDS)] != TERMS_FIELDS:
+            raise Unexpected("cif writes another table of schedules: is it another release?")
+        operator_at = table.names.index("operator_code") - len(TERMS_FIELDS)
         for line in table.lines:
-            uid, first, last, days_run, operator, identity = cells_of(line.split(b"\t"))
-            counter.add(operator, days_run, first, last)
+            number, uid, first, last, days_run, *cells = line.split(b"\t")
+            counter.add(cells[operator_at], first, last, days_run)
             if uid != before:
                 before = uid
                 uids += 1
                 if uid in wanted:
-                    found[uid] = identity.decode()
-    return Schedules(counter.by_operator(), uids, found)
+                    found[uid] = cells[IDENTITY].decode()
+            if uid in own_dates:
+                dates = window.dates(first, last, days_run) & own_dates[uid]
+                if dates:
+                    about = b"\t".join(cells).rstrip(b"\n")
+                    own.append(OwnSchedule(number, uid, dates, about))
+    by_operator = {operator.decode(): counts for operator, counts in sorted(counter.counts())}
+    return Schedules(by_operator, uids, found, own)

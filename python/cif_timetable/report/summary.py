@@ -5,7 +5,6 @@ import os
 from datetime import date, datetime
 from typing import List, Tuple
 
-from .._headers import extracted_at
 
 from .days import MONTH_NAMES
 from .pair import Side
@@ -71,7 +70,7 @@ def in_all(before: int, after: int) -> str:
 
 def warning(report: Report) -> Markup:
     """Says so if the second file is the older one."""
-    before, after = (extracted_at(side.header) for side in (report.pair.old, report.pair.new))
+    before, after = (side.header.extracted_at for side in (report.pair.old, report.pair.new))
     if before and after and after < before:
         text = "The second file was extracted before the first one, so the changes are those back to it."
         return fill("warning", text=text)
@@ -81,21 +80,19 @@ def warning(report: Report) -> Markup:
 # ---- the files
 
 
-def moment(text: str) -> str:
-    at = datetime.fromisoformat(text)
+def moment(at: datetime) -> str:
     return f"{at.day} {MONTH_NAMES[at.month - 1]} {at.year}, {at:%H:%M}"
 
 
 def file_row(report: Report, name: str, side: Side, schedules: Schedules) -> Markup:
-    extracted = extracted_at(side.header)
-    first, last = side.header.first_date, side.header.last_date
+    header = side.header
     return fill(
         "file",
         side=name,
         name="standard input" if side.name == "-" else os.path.basename(shown_name(side.name)),
-        extracted=moment(extracted) if extracted else "no date",
-        reference=side.header.current_reference.strip() or "none",
-        window=period(report, date.fromisoformat(first), date.fromisoformat(last)),
+        extracted=moment(header.extracted_at) if header.extracted_at else "no date",
+        reference=(header.current_reference or "").strip() or "none",
+        window=period(report, header.first_date, header.last_date),
         trains=f"{schedules.trains:,}",
     )
 

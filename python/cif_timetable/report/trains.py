@@ -193,7 +193,7 @@ def calls_of(report: Report, train: Train, change: Change) -> Markup:
 
 
 def body_at(report: Report, place: Place) -> Body:
-    return body_of(report.copy.text(place))
+    return body_of(report.bodies.text(place))
 
 
 def places_of(bodies: Sequence[Body]) -> List[str]:

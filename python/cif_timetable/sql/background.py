@@ -6,7 +6,7 @@ from multiprocessing import get_context
 from multiprocessing.connection import Connection
 from typing import Callable, ContextManager, Iterator, List, Optional, Sequence
 
-from ..errors import Ending, Failed
+from ..errors import CifError, Failed
 from .._files import interrupts_waiting
 from .._running import ignore_interrupts
 
@@ -47,13 +47,13 @@ class Background(Database):
         if ending is not None:
             raise ending
 
-    def ending(self) -> Optional[Ending]:
+    def ending(self) -> Optional[CifError]:
         """What ended the process early, or None once it has done all."""
         try:
             ending = self.process.recv()
         except (OSError, EOFError):
             return Failed("the process that writes the database ended early")
-        assert ending is None or isinstance(ending, Ending)
+        assert ending is None or isinstance(ending, CifError)
         return ending
 
 
@@ -63,14 +63,14 @@ def fill_all(opened: Opened, ours: Connection, others: Sequence[Connection]) -> 
     ignore_interrupts()
     for other in others:
         other.close()
-    ending: Optional[Ending] = None
+    ending: Optional[CifError] = None
     try:
         with opened() as database:
             message = ours.recv()
             while message is not None:
                 database.fill(*message)
                 message = ours.recv()
-    except Ending as problem:
+    except CifError as problem:
         ending = problem
     except MemoryError:
         ending = Failed("memory ran out")

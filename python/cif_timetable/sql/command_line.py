@@ -2,37 +2,33 @@
 from __future__ import annotations
 
 import argparse
-import hashlib
 import os
-from concurrent.futures import ThreadPoolExecutor
-from contextlib import ExitStack, contextmanager
-from datetime import datetime, timezone
-from functools import partial
+import re
+from contextlib import ExitStack
 from pathlib import Path
-from typing import Callable, ContextManager, Iterator, Optional, Sequence
+from typing import Optional, Sequence
 
-from .._arguments import add_cif, add_help, add_names, add_window, new_parser
-from .._process import Cif, find_cif
-from ..user_csv import CONTROL, read_file
-from ..errors import SUCCESS, Misused
-from .._files import BLOCK, check_inputs_stay, new_files, output_path
-from ..operators import read_operators
-from ..places import PLACES
+from .._arguments import add_cif, add_help, add_names, add_reading, new_parser
+from .._arguments import request_of
+from .._extract import is_stream, open_extract
+from .._files import check_inputs_stay, output_path
+from .._process import find_cif
 from .._progress import Progress
 from .._running import leave_cycles, run, standard_output
-from .._tables import Extract, is_stream, open_extract
-
-from .background import in_background
-from .loading import Source, UserFiles, load
+from ..errors import SUCCESS, Misused
+from .database import make_database, reading_source, user_files
+from .loading import UserFiles, load
 from .postgres import PostgresScript, check_schema
-from .sqlite_file import Parts, check_age, check_place, join_parts, new_part
+from .sqlite_file import check_place
 
 PROGRAM = "cif-sql"
+# What the name of a compressed extract has after that of the extract.
+PACKED = re.compile(r"\.(gz|zip)$", re.IGNORECASE)
 
 ABOUT = """\
 Loads a CIF timetable extract into an SQLite database, or writes a script for
-psql that loads it into PostgreSQL. The extract has to be one that
-`cif normalise` accepts.
+psql that loads it into PostgreSQL. The extract is as it is published or as
+`cif prepare` writes it. It may be compressed by gzip, or the only one in a zip.
 """
 STATUSES = """\
 statuses:
@@ -47,7 +43,7 @@ statuses:
 def arguments_of(words: Optional[Sequence[str]]) -> argparse.Namespace:
     parser = new_parser(PROGRAM, ABOUT, STATUSES)
     add = parser.add_argument
-    add_window(parser)
+    add_reading(parser)
     add_names(parser)
     add(
         "--postgres",
@@ -74,44 +70,16 @@ def place_of(asked: argparse.Namespace) -> Path:
     if name is None:
         if is_stream(asked.extract):
             raise Misused("the extract has no name: -o says which database to write")
-        name = os.path.splitext(asked.extract)[0] + ".db"
+        name = PACKED.sub("", asked.extract)
+        name = os.path.splitext(name)[0] + ".db"
     place = output_path(name)
-    check_inputs_stay([place], [asked.extract], (asked.places, asked.operators))
+    others = (asked.places, asked.operators, asked.holidays)
+    check_inputs_stay([place], [asked.extract], others)
     return place
 
 
-def version_of(cif: Cif) -> str:
-    """The version of `cif`."""
-    with cif.output(["--version"]) as lines:
-        return lines.read().decode().strip().rpartition(" ")[2]
-
-
-def digest_of(path: Path) -> str:
-    digest = hashlib.sha256()
-    with open(path, "rb") as file:
-        for block in iter(lambda: file.read(BLOCK), b""):
-            digest.update(block)
-    return digest.hexdigest()
-
-
-@contextmanager
-def reading_source(extract: Extract, name: str) -> Iterator[Callable[[], Source]]:
-    """What tells the source of an extract, whose digest is made meanwhile by a thread."""
-    now = datetime.now(timezone.utc).isoformat(timespec="seconds")
-    shown = CONTROL.sub("?", os.fsencode(name).decode(errors="replace"))
-    version = version_of(extract.cif)
-    with ThreadPoolExecutor(1) as threads:
-        digest = threads.submit(digest_of, extract.path)
-        yield lambda: Source(shown, digest.result(), version, now)
-        extract.check_state()
-
-
 def given_files(asked: argparse.Namespace) -> UserFiles:
-    return UserFiles(read_file(PLACES, asked.places), read_operators(asked.operators))
-
-
-def open_asked(asked: argparse.Namespace) -> ContextManager[Extract]:
-    return open_extract(find_cif(asked.cif), asked.extract, asked.first, asked.last)
+    return user_files(asked.places, asked.operators)
 
 
 def make_file(asked: argparse.Namespace, progress: Progress) -> int:
@@ -121,22 +89,8 @@ def make_file(asked: argparse.Namespace, progress: Progress) -> int:
     place = place_of(asked)
     check_place(place)
     given = given_files(asked)
-    with open_asked(asked) as extract:
-        if not asked.force:
-            check_age(place, extract.header())
-        with new_files() as files:
-            path, longest, others = files.reserve(place), files.beside(place), files.beside(place)
-            parts = [partial(new_part, part, place) for part in (longest, others)]
-            # no thread is there yet when the processes start
-            with in_background(parts) as databases:
-                with reading_source(extract, asked.extract) as source:
-                    load(extract, source, given, Parts(*databases), progress)
-                progress.show("building indexes")
-            join_parts(longest, others, path, place)
-            # it may have become another one meanwhile
-            check_place(place)
-            if not asked.force:
-                check_age(place, extract.header())
+    with open_extract(find_cif(asked.cif), request_of(asked, asked.extract)) as extract:
+        make_database(extract, place, given, asked.force, progress)
     return SUCCESS
 
 
@@ -147,9 +101,10 @@ def write_script(asked: argparse.Namespace, progress: Progress) -> int:
     schema = asked.schema if asked.schema is not None else "cif"
     check_schema(schema)
     given = given_files(asked)
-    with open_asked(asked) as extract, ExitStack() as stack:
+    request = request_of(asked, asked.extract)
+    with open_extract(find_cif(asked.cif), request) as extract, ExitStack() as stack:
         script = PostgresScript(stack)
-        with reading_source(extract, asked.extract) as source:
+        with reading_source(extract) as source:
             load(extract, source, given, script, progress)
         progress.show("writing the script")
         with standard_output() as output:

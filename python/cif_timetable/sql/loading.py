@@ -3,24 +3,26 @@ from __future__ import annotations
 
 import re
 from contextlib import ExitStack
+from dataclasses import astuple
 from datetime import timedelta
-from itertools import accumulate
 from operator import itemgetter
 from typing import IO, Callable, Dict, Iterator, List, Mapping, NamedTuple, Tuple
 
 from ..user_csv import Key
-from ..days import Window
+from ..days import TrainsPerDay, Window
 from ..errors import Refused
 from .._files import BLOCK, scratch_file
-from .._headers import extracted_at
 from ..operators import OperatorRow, operator_name
 from ..places import PlaceRow, Places
 from .._progress import Progress
 from ..riders import is_for_riders
 from .._schedules import calls_by_schedule, numbered
-from .._tables import AssociationRow, Extract, Header, Table, TiplocRow
+from .._extract import Extract
+from .._tables import Table, fields_of
+from ..errors import Unexpected
+from ..model import Association, Header, Location
 
-from .schema import Database, Filler, Row, rows_of
+from .schema import Database, Filler, Row, moment_of, rows_of
 
 # A train has calls after at most so many midnights: each date of the window has a row for each of them. Real trains have two.
 MOST_MIDNIGHTS = 31
@@ -45,7 +47,7 @@ class UserFiles(NamedTuple):
 # ---- places, associations, dates
 
 
-def load_places(database: Database, rows: List[TiplocRow], places: Places) -> None:
+def load_places(database: Database, rows: List[Location], places: Places) -> None:
     locations: Dict[str, Row] = {}
     stations: Dict[str, Row] = {}
     for row in rows:
@@ -73,33 +75,12 @@ def load_dates(database: Database, window: Window, midnights: int) -> None:
     by_clock.flush()
 
 
-class TrainsPerDay:
-    """How many trains run on each date, by operator, and by whether they are for passengers."""
-
-    def __init__(self, window: Window) -> None:
-        self.window = window
-        self.numbers = {day.isoformat(): number for number, day in enumerate(window.days)}
-        # by weekdays, for each date, how many trains begin to run less those that have ended
-        self.changes: Dict[Tuple[str, int], Dict[str, List[int]]] = {}
-
-    def add(self, key: Tuple[str, int], first: str, last: str, days_run: str) -> None:
-        by_days_run = self.changes.setdefault(key, {})
-        if days_run not in by_days_run:
-            by_days_run[days_run] = [0] * (len(self.window.days) + 1)
-        changes = by_days_run[days_run]
-        changes[self.numbers[first]] += 1
-        changes[self.numbers[last] + 1] -= 1
-
-    def rows(self) -> Iterator[Row]:
-        for (operator, passenger), by_days_run in self.changes.items():
-            trains = [0] * len(self.window.days)
-            for days_run, changes in by_days_run.items():
-                for number, (day, count) in enumerate(zip(self.window.days, accumulate(changes))):
-                    if days_run[day.weekday()] == "1":
-                        trains[number] += count
-            for day, count in zip(self.window.days, trains):
-                if count:
-                    yield (day.isoformat(), operator, passenger, count)
+def trains_per_day(counter: TrainsPerDay[Tuple[str, int]]) -> Iterator[Row]:
+    """The rows of dates with trains, by operator, and by whether the trains are for passengers."""
+    for (operator, passenger), counts in counter.counts():
+        for day, count in zip(counter.window.days, counts):
+            if count:
+                yield (day, operator, passenger, count)
 
 
 # ---- journeys
@@ -251,7 +232,7 @@ class Schedules:
         self, database: Database, window: Window, given: UserFiles, names: List[str]
     ) -> None:
         self.given = given
-        self.per_day = TrainsPerDay(window)
+        self.per_day: TrainsPerDay[Tuple[str, int]] = TrainsPerDay(window)
         self.names_of: Dict[str, str] = {"": ""}
         self.schedules = Filler(database, "schedules", ["id", *in_database(names[1:]), *FURTHER])
         self.key = itemgetter(*(names.index(name) for name in self.KEY))
@@ -266,7 +247,7 @@ class Schedules:
         passenger = int(journey.public_calls >= 2 and is_for_riders(status, category))
         further = f"{self.operator_name(operator)}\t{passenger}\t{journey.number}\t{journey.ends}"
         self.schedules.add(f"{line}\t{further}\n".encode())
-        self.per_day.add((operator, passenger), *dates)
+        self.per_day.add((operator, passenger), *(cell.encode() for cell in dates))
 
 
 def load_trains(
@@ -285,7 +266,8 @@ def load_trains(
             riders, en_route = Follower(public.table()), Follower(changes.table())
             rows = spooled_schedules.table().lines
             for row, (number, text) in zip(rows, calls_by_schedule(calls)):
-                assert row.startswith(number + b"\t"), "each schedule has calls"
+                if not row.startswith(number + b"\t"):
+                    raise Unexpected("cif writes a schedule without calls: is it another release?")
                 line = row.decode().rstrip("\n")
                 cells = line.split("\t")
                 parts = numbered(number, text), riders.take(number), en_route.take(number)
@@ -294,7 +276,7 @@ def load_trains(
     journeys.flush()
     schedules.schedules.flush()
     names = "date operator passenger trains".split()
-    database.fill("trains_per_day", names, rows_of(schedules.per_day.rows()))
+    database.fill("trains_per_day", names, rows_of(trains_per_day(schedules.per_day)))
     return journeys.moments.midnights
 
 
@@ -309,11 +291,11 @@ def load(
     progress.show("reading trains and associations")
     header = extract.header()
     window = Window(header.first_date, header.last_date)
-    tiplocs = extract.rows("tiplocs", TiplocRow)
+    tiplocs = extract.rows("tiplocs", Location)
     load_places(database, tiplocs, Places(tiplocs, given.places))
-    associations = extract.rows("associations", AssociationRow)
-    database.fill("associations", AssociationRow._fields, rows_of(associations))
+    associations = extract.rows("associations", Association)
+    database.fill("associations", list(fields_of(Association)), rows_of(map(astuple, associations)))
     load_dates(database, window, load_trains(database, window, extract, given, progress))
-    about = [*header, extracted_at(header), *source()]
-    names = (*Header._fields, "extracted_at", *Source._fields)
+    about = [*astuple(header), moment_of(header), *source()]
+    names = (*fields_of(Header), "extracted_at", *Source._fields)
     database.fill("extract", names, rows_of([about]))

@@ -9,10 +9,9 @@ from typing import IO, Dict, NamedTuple, Sequence
 from ..user_csv import CONTROL
 from ..errors import Misused
 from .._files import BLOCK, scratch_file
-from .._headers import extracted_at
-from .._tables import Header
+from ..model import Header
 
-from .schema import Database, sql
+from .schema import Database, moment_of, sql
 
 # Names that are the same in double quotes and without, and with `_new` have at most 63 letters.
 SCHEMA = re.compile("[a-z_][a-z0-9_]{0,58}")
@@ -52,8 +51,8 @@ class PostgresScript(Database):
     def write(self, output: IO[bytes], schema: str, header: Header, force: bool) -> None:
         """Writes the script."""
         words = {"SCHEMA": schema, "FORCE": str(force).lower()}
-        words["MOMENT"] = extracted_at(header) or ""
-        words["FIRST"], words["LAST"] = header.first_date, header.last_date
+        words["MOMENT"] = moment_of(header) or ""
+        words["FIRST"], words["LAST"] = str(header.first_date), str(header.last_date)
 
         def add(text: str) -> None:
             output.write(re.sub("@([A-Z]+)@", lambda found: words[found[1]], text).encode())

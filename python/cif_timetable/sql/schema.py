@@ -1,18 +1,26 @@
 """The definitions of tables, indexes and views, which are in SQL files, and where rows go."""
 from __future__ import annotations
 
+from datetime import date
 from pathlib import Path
-from typing import Iterable, List, Sequence, Union
+from typing import Iterable, List, Optional, Sequence, Union
+
+from ..model import Header
 
 HERE = Path(__file__).resolve().parent
 
-Value = Union[None, str, int, float]
+Value = Union[None, str, int, float, date]
 Row = Sequence[Value]
 
 
 def sql(name: str) -> str:
     """The text of an SQL file."""
     return (HERE / f"{name}.sql").read_text(encoding="ascii")
+
+
+def moment_of(header: Header) -> Optional[str]:
+    """When an extract was made, as a database has it."""
+    return header.extracted_at.isoformat(timespec="minutes") if header.extracted_at else None
 
 
 class Database:

@@ -8,10 +8,9 @@ from typing import Iterator, Optional, Sequence, Tuple
 from urllib.parse import quote
 
 from ..errors import Failed, Refused
-from .._headers import extracted_at
-from .._tables import Header
+from ..model import Header
 
-from .schema import Database, sql
+from .schema import Database, moment_of, sql
 
 # SQLite's number for the program that a file is of: "cif1", the 1 for the layout of its tables.
 APPLICATION = 0x63696631
@@ -96,7 +95,7 @@ def check_age(path: Path, header: Header) -> None:
         there = age_in(path)
     except (sqlite3.Error, ValueError):
         raise Refused(f"{path} is damaged; --force replaces it") from None
-    if there > age_of(extracted_at(header), header.first_date, header.last_date):
+    if there > age_of(moment_of(header), str(header.first_date), str(header.last_date)):
         moment, first, last = there
         has = f"{path} has a later extract, of {moment or 'no time'}, from {first} to {last}"
         raise Refused(f"{has}; --force replaces it")

@@ -1,0 +1,1 @@
+"""Direct tests of the functions of the Python package."""
