@@ -14,6 +14,7 @@ from .errors import SUCCESS
 from ._running import open_streams, printable, run, standard_output
 
 
+MOST_PROCESSES = 64
 # An option with the value `--`, which argparse takes away in some releases of Python.
 WITHOUT_VALUE = re.compile(r"(--[a-z-]+)=--|(-[a-z])--")
 
@@ -92,6 +93,22 @@ def preparing_of(asked: argparse.Namespace, name: str) -> Request:
 def request_of(asked: argparse.Namespace, name: str) -> Request:
     """Likewise, with the part of its window that is asked for."""
     return replace(preparing_of(asked, name), first=asked.first, last=asked.last)
+
+
+def number_of_processes(text: str) -> int:
+    if not (text.isascii() and text.isdigit() and 0 < int(text[:4]) <= MOST_PROCESSES):
+        number = f"isn't a number of processes from 1 to {MOST_PROCESSES}"
+        raise argparse.ArgumentTypeError(f"`{text}` {number}")
+    return int(text)
+
+
+def add_processes(parser: argparse.ArgumentParser) -> None:
+    parser.add_argument(
+        "--processes",
+        type=number_of_processes,
+        metavar="NUMBER",
+        help="how many processes work side by side, by default as many as fit",
+    )
 
 
 def add_cif(parser: argparse.ArgumentParser) -> None:

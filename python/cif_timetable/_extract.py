@@ -2,10 +2,9 @@
 from __future__ import annotations
 
 import os
-import re
 import stat
 import sys
-from collections.abc import Callable, Collection, Iterator, Sequence
+from collections.abc import Callable, Iterator, Sequence
 from contextlib import ExitStack, contextmanager
 from dataclasses import dataclass
 from datetime import date
@@ -155,17 +154,6 @@ class Extract:
                 raise
             return refusal
 
-    @contextmanager
-    def part(self, uids: Collection[bytes]) -> Iterator[Extract | None]:
-        """An extract of some trains alone, since no other record says what runs of these. There is
-        none if not all lines have one length."""
-        with scratch_file_with_path() as (part, path):
-            with open(self.path, "rb") as whole:
-                found = write_part(whole, uids, part)
-            part.flush()
-            self.check_state()
-            yield Extract(self.cif, path, self.request, self.source) if found else None
-
     def rows(self, name: str, kind: type[Value]) -> list[Value]:
         """All rows of a table of header, places or associations. Nothing of these depends on the
         schedules, after which none of them stands; so what is before the schedules is enough. What
@@ -207,37 +195,6 @@ def write_head(extract: IO[bytes], head: IO[bytes]) -> bool:
             return False
         head.write(line)
     return False
-
-
-# Of the records of an extract only a schedule has this second letter.
-SECOND = re.compile(b"S")
-
-
-def write_part(
-    extract: IO[bytes], uids: Collection[bytes], part: IO[bytes], size: int = BLOCK
-) -> bool:
-    """Writes an extract that is accepted with no schedules but those of some trains. It looks at
-    one column of all lines at once, since looking at each line takes far longer. Returns whether
-    all lines have one length, as this needs."""
-    width = len(extract.readline(LONGEST))
-    extract.seek(0)
-    lines = max(size // width, 1)
-    is_wanted = True
-    for block in iter(lambda: extract.read(lines * width), b""):
-        if len(block) % width or block[width - 1 :: width].strip(b"\n"):
-            return False
-        at = 0
-        for found in SECOND.finditer(block[1::width]):
-            start = found.start() * width
-            if is_wanted:
-                part.write(block[at:start])
-            at = start
-            is_wanted = block[start + 3 : start + 9] in uids
-        if is_wanted:
-            part.write(block[at:])
-    if not is_wanted:
-        part.write(TRAILER)
-    return True
 
 
 @contextmanager

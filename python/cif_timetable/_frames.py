@@ -41,8 +41,12 @@ def typed(name: str, type_name: str, column: pandas.Series) -> pandas.Series:
         return pandas.to_timedelta(column)
     if type_name == "time":
         read = public_time if name.startswith("public_") else working_time
-        moments = {cell: since_midnight(read(cell)) for cell in column.dropna().unique()}
-        return pandas.to_timedelta(column.map(moments))
+        # the number of each cell among the unlike ones, or -1, the last, where there is none
+        numbers, cells = pandas.factorize(column)
+        moments = pandas.TimedeltaIndex(
+            [*(since_midnight(read(cell)) for cell in cells), pandas.NaT]
+        )
+        return pandas.Series(moments.take(numbers))
     return column
 
 

@@ -1,11 +1,15 @@
 """Functions of cif-gtfs."""
 from __future__ import annotations
 
+import io
+import tempfile
 import unittest
 from datetime import date
 
+from cif_timetable._tables import Table
 from cif_timetable.days import Window
 from cif_timetable.gtfs.calls import Stop, row_at, rounded_up
+from cif_timetable.gtfs.parts import Index, Part, Schedules, parts_of
 from cif_timetable.gtfs.services import Services
 from cif_timetable.gtfs.trains import EXTENDED_TYPES, Kind, Sort, kind_of
 from cif_timetable.riders import is_for_riders
@@ -40,6 +44,58 @@ class ServicesOfDates(unittest.TestCase):
     def test_nothing_usual(self) -> None:
         """Of no weekday more than half: there are no rows but those of the dates."""
         self.assertEqual(["20260601,1", "20260622,1"], self.rows(1, 22))
+
+
+class Small(io.BytesIO):
+    """A stream that gives few bytes at once."""
+
+    def __init__(self, text: bytes, size: int) -> None:
+        super().__init__(text)
+        self.size = size
+
+    def read(self, _size: int | None = None) -> bytes:
+        return super().read(self.size)
+
+
+class PartsOfATable(unittest.TestCase):
+    """The public calls of trains, for processes."""
+
+    # the schedules of four trains; the second has no public call, and the third none in its first one
+    UIDS = "A A B C C C C D".split()
+    CALLS = {1: 3, 2: 2, 5: 3, 6: 9, 7: 2, 8: 4}
+
+    def test_whole_trains(self) -> None:
+        lines = [f"{number}\t{uid}\trest\n" for number, uid in enumerate(self.UIDS, 1)]
+        rows = [
+            f"{number}\t{call}\tX\n"
+            for number, count in self.CALLS.items()
+            for call in range(count)
+        ]
+        text = "".join(rows).encode()
+        with tempfile.TemporaryFile() as file:
+            schedules = Schedules([], file)
+            schedules.fill(Table([], io.BytesIO("".join(lines).encode())))
+            for size in (*range(8, 40), 1000):
+                with self.subTest(size):
+                    parts = list(parts_of(Index(schedules), Table([], Small(text, size))))
+                    self.assertEqual(text, b"".join(part.text for part in parts))
+                    self.assertEqual(
+                        "".join(lines), b"".join(self.lines(schedules, parts)).decode()
+                    )
+                    for part in parts:
+                        numbers = {int(row.split(b"\t")[0]) for row in part.text.splitlines()}
+                        uids = {self.UIDS[number - 1] for number in numbers}
+                        others = {
+                            self.UIDS[number - 1] for number in self.CALLS if number not in numbers
+                        }
+                        self.assertFalse(uids & others)
+                        found = {
+                            int(line.split(b"\t")[0]) for line in self.lines(schedules, [part])
+                        }
+                        self.assertLessEqual(numbers, found)
+
+    def lines(self, schedules: Schedules, parts: list[Part]) -> list[bytes]:
+        return [line for part in parts for line in schedules.lines_in(part.first, part.last)]
 
 
 class KindsOfTrains(unittest.TestCase):

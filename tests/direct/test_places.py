@@ -20,6 +20,7 @@ class Names(unittest.TestCase):
             "HAYWARDS HEATH": "Haywards Heath",
             "STOKE-ON-TRENT": "Stoke-on-Trent",
             "KING'S CROSS": "King's Cross",
+            "BAT AND BALL": "Bat and Ball",
             "BRIGHTON C.S.": "Brighton C.S.",
             "ST. PANCRAS (THE ARCHES)": "St. Pancras (The Arches)",
             "THE HAWTHORNS": "The Hawthorns",
@@ -54,4 +55,7 @@ class Stations(unittest.TestCase):
         places = Places([location(each, "XYZ", "A PLACE") for each in "ABC"], given)
         self.assertEqual("Given", places.station_name("A"))
         self.assertEqual((51.5, -0.1), places.coordinates("A"))
+        given["B",] = PlaceRow("B", None, 50.0, -1.0)
+        places = Places([location(each, "XYZ", "A PLACE") for each in "ABC"], given)
+        self.assertEqual((51.5, -0.1), places.coordinates("C"))
         self.assertEqual((None, None), places.coordinates("ELSEWHERE"))

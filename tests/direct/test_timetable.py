@@ -10,9 +10,11 @@ import subprocess
 import sys
 import threading
 import unittest
+import warnings
 import zipfile
 from datetime import date, time, timedelta
 from pathlib import Path
+from unittest import mock
 
 import cif_timetable as cif
 from cif_timetable import _process, _tables
@@ -95,6 +97,20 @@ class OneTrain(InFolder):
         with self.assertRaisesRegex(cif.CifError, "has changed"):
             list(timetable.schedules())
 
+    def test_changed_locations(self) -> None:
+        old = self.folder / "old.cif"
+        old.write_text(self.path(f"{'TIHOVE   00000000 HOVE':80}\n", TRAIN).read_text())
+        new = self.path(
+            f"{'TIHOVE   00000000 HOVE B':80}\n", f"{'TILEWES  00000000 LEWES':80}\n", TRAIN
+        )
+        self.assertEqual(cif.ChangeCounts(0, 1, 1), cif.changes(old, new).locations)
+
+    @unittest.skipUnless(importlib.util.find_spec("pandas"), "pandas isn't there")
+    def test_quotation_marks_in_a_frame(self) -> None:
+        path = self.path(TRAIN.replace("0010 00101  ", '0010 0010"1 '))
+        platforms = cif.open(path).frame("calls").platform
+        self.assertEqual('"1', platforms[2])
+
     def test_line_of_a_refusal(self) -> None:
         with self.assertRaises(cif.CifError) as caught:
             cif.open(self.path(TRAIN.replace("1111111", "1112111")))
@@ -118,6 +134,9 @@ class Opening(InFolder):
             members.write(PUBLISHED, "RJTTF001.MCA")
             members.writestr("RJTTF001.MSN", "x")
         wanted = cif.counts(EXTRACT)
+        # nothing is left out, so nothing is said
+        self.enterContext(warnings.catch_warnings())
+        warnings.simplefilter("error", UserWarning)
         for path in PUBLISHED, packed, archive:
             with self.subTest(path.name), cif.open(path, holidays=HOLIDAYS) as timetable:
                 self.assertEqual(wanted, cif.counts(timetable))
@@ -167,7 +186,9 @@ class Opening(InFolder):
                 (timetable.header.first_date, timetable.header.last_date),
             )
             self.assertEqual(5, len(timetable.calendar("W20347")))
-            self.assertEqual(0, cif.changes(timetable, EXTRACT).schedules.removed)
+            # what changes is on the days after
+            changed = cif.changes(timetable, EXAMPLES / "changed.cif")
+            self.assertEqual(cif.ChangeCounts(0, 0, 0), changed.schedules)
         for day in date(2026, 7, 1), date(1926, 6, 1), date(2126, 6, 1):
             with self.subTest(day), self.assertRaises(cif.CifError) as caught:
                 cif.open(EXTRACT, first=day)
@@ -286,6 +307,7 @@ class Exports(InFolder):
 
     def test_signals_stay(self) -> None:
         """Only programs decide what interrupts do."""
+        signal.signal(signal.SIGINT, signal.default_int_handler)
         before = [signal.getsignal(number) for number in (signal.SIGINT, signal.SIGTERM)]
         cif.to_sqlite(EXTRACT, self.folder / "made.db")
         result = cif.to_gtfs(EXTRACT, self.folder / "made.zip")
@@ -312,7 +334,8 @@ class Finding(InFolder):
         """What is asked for, then CIF, then the clone's, and then the PATH."""
         own = _process.find_cif("/somewhere/cif").path
         self.assertEqual("/somewhere/cif", own)
-        self.assertEqual(os.environ["CIF"], _process.find_cif().path)
+        with mock.patch.dict(os.environ, {"CIF": "/elsewhere/cif"}):
+            self.assertEqual("/elsewhere/cif", _process.find_cif().path)
         program = self.folder / "cif"
         program.symlink_to(os.environ["CIF"])
         environment = {"PATH": str(self.folder), "PYTHONPATH": str(TOP / "python")}

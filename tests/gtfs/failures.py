@@ -9,6 +9,7 @@ import shutil
 import signal
 import stat
 import subprocess
+import sys
 import time
 import zipfile
 from collections import defaultdict
@@ -19,18 +20,16 @@ from typing import Callable, DefaultDict, Dict, FrozenSet, List, Optional, Set, 
 from cif_timetable.gtfs import trips
 from cif_timetable.user_csv import Mistake, mail_address, web_address
 from cif_timetable.errors import Refused
-from cif_timetable._extract import write_part
 from cif_timetable._tables import rows_with
 
 from . import generated
 from .by_hand import uids_of
-from .checks import PROGRAMS, TOP, Counts, Maker, Word, interrupted
+from .checks import PACKAGES, PROGRAMS, TOP, Counts, Maker, Word, interrupted
 from .feeds import Feed, Shown, active_services
 
 # A generated extract, and how many of its associations stay.
 SEED = 1
 SCHEDULES = 600
-ASSOCIATIONS = 12
 
 # A file of each kind, with what is told of it.
 BAD_FILES = {
@@ -791,48 +790,45 @@ def padded(*lines: str) -> List[bytes]:
     return [line.ljust(80).encode() + b"\n" for line in lines]
 
 
-def check_part(counts: Counts) -> None:
-    """An extract of some trains has what stands before the schedules, their lines and the end."""
-    head = padded("HDTPS", "TIBSALPHA", "AANA00001")
-    schedules = [
-        padded(f"BSN{uid}", *["LOSSS", *["LISSS"] * calls, "LTSSS"])
-        for uid, calls in (
-            ("A00001", 3),
-            ("B00002", 0),
-            ("A00001", 1),
-            ("      ", 2),
-            ("C00003", 9),
+# Runs cif-gtfs with parts of few rows.
+IN_SMALL_PARTS = """\
+import sys
+sys.path[0] = sys.argv.pop(1)
+from cif_timetable.gtfs import command_line, parts
+parts.BLOCK = 20_000
+sys.exit(command_line.main())
+"""
+
+
+def check_processes(counts: Counts, maker: Maker) -> None:
+    """Any number of processes makes the same zip, to the byte."""
+    extract = maker.folder / "many.cif"
+    extract.write_bytes(generated.extract(random.Random(SEED), SCHEDULES))
+    found = []
+    for number in 1, 2, 3:
+        words: List[Word] = ["--processes", str(number), "-o", "many.zip", "--trips", "many.csv"]
+        call: List[Word] = [
+            sys.executable,
+            "-B",
+            "-c",
+            IN_SMALL_PARTS,
+            PACKAGES,
+            "--cif",
+            maker.cif,
+        ]
+        done = subprocess.run(
+            [*call, *words, extract], cwd=maker.folder, capture_output=True, check=False
         )
-    ]
-    end = padded("ZZ")
-    lines = [*head, *(line for schedule in schedules for line in schedule), *end]
-    for uids in (b"A00001", b"C00003"), (b"      ",), (b"B00002", b"C00003"), (b"BSN   ",), ():
-        wanted = [schedule for schedule in schedules if schedule[0][3:9] in uids]
-        want = [*head, *(line for schedule in wanted for line in schedule), *end]
-        for size in (1, 81, 100, 300, 1000, 10**6):
-            part = io.BytesIO()
-            found = write_part(io.BytesIO(b"".join(lines)), uids, part, size)
-            got = part.getvalue().splitlines(keepends=True)
-            counts.same(f"the part of {uids} in blocks of {size}", (True, want), (found, got))
-        for number, line in enumerate(lines):
-            other = [*lines[:number], line[:-1] + b"\r\n", *lines[number + 1 :]]
-            found = write_part(io.BytesIO(b"".join(other)), uids, io.BytesIO(), 300)
-            counts.same(f"line {number} has another length", False, found)
-
-
-def check_few(counts: Counts, maker: Maker) -> None:
-    """Where few trains have associations their calls are read by themselves, and the feed is that
-    of the same extract with lines of two lengths, of which all calls are read."""
-    lines = generated.extract(random.Random(SEED), SCHEDULES).splitlines(keepends=True)
-    associations = [line for line in lines if line.startswith(b"AA")]
-    left_out = set(associations[ASSOCIATIONS:])
-    few, whole = maker.folder / "few.cif", maker.folder / "whole.cif"
-    few.write_bytes(b"".join(line for line in lines if line not in left_out))
-    whole.write_bytes(few.read_bytes().replace(b"\n", b"\r\n", 1))
-    (got, feed), (want, wanted) = maker.feed(few), maker.feed(whole)
-    counts.test("a feed of few associations", feed == wanted)
-    counts.test("it has linked trips", feed["transfers"].count("\n") > 1, feed["transfers"])
-    counts.same("what a feed of few associations leaves out", want.stderr, got.stderr)
+        files = [maker.folder / name for name in ("many.zip", "many.csv")]
+        found.append((done.returncode, done.stderr, *(file.read_bytes() for file in files)))
+    for each in found[1:]:
+        counts.test("the zip of several processes", each == found[0], [each[:2], found[0][:2]])
+    for word in "0", "65", "x", "-1":
+        done_badly = maker.run("--processes", word, extract)
+        counts.same(f"{word} processes", 2, done_badly.returncode)
+    extract.unlink()
+    for file in files:
+        file.unlink()
 
 
 # A train that divides at BETA, and its portion. Trains whose calls are far more than a pipe holds come after them.
@@ -898,6 +894,5 @@ def check(counts: Counts, maker: Maker, special: Path) -> None:
     check_again(counts, maker, special)
     check_collision(counts)
     check_blocks(counts)
-    check_part(counts)
-    check_few(counts, maker)
+    check_processes(counts, maker)
     check_rest(counts, maker)

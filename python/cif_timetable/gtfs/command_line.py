@@ -6,7 +6,7 @@ import sys
 from typing import Optional, Sequence
 
 from .._arguments import add_cif, add_help, add_names, add_reading, new_parser
-from .._arguments import request_of
+from .._arguments import add_processes, request_of
 from .._process import find_cif
 from ..user_csv import Mistake, mail_address, name_of_publisher, shown, web_address
 from ..errors import SUCCESS, Misused
@@ -59,6 +59,7 @@ def arguments_of(words: Optional[Sequence[str]]) -> argparse.Namespace:
         action="store_true",
         help="no linked trips: portions have the calls that they share with another train",
     )
+    add_processes(parser)
     add("--publisher", metavar="NAME", help="who publishes the feed")
     add("--url", metavar="URL", help="the address of the publisher on the web")
     add("--email", metavar="ADDRESS", help="the address of the publisher for mail")
@@ -122,9 +123,8 @@ def make_feed(asked: argparse.Namespace, progress: Progress) -> int:
     """The status, after the zip is written."""
     outputs = outputs_of(asked)
     types = EXTENDED_TYPES if asked.extended_types else TYPES
-    wishes = Wishes(
-        types, asked.whole_trains, publisher_of(asked.publisher, asked.url, asked.email)
-    )
+    publisher = publisher_of(asked.publisher, asked.url, asked.email)
+    wishes = Wishes(types, asked.whole_trains, publisher, asked.processes)
     given = user_files(asked.places, asked.operators, asked.interchange, asked.links)
     with open_extract(find_cif(asked.cif), request_of(asked, asked.extract)) as extract:
         outcome = convert(extract, given, wishes, outputs, progress)

@@ -1,9 +1,11 @@
 """From an extract to a feed."""
 from __future__ import annotations
 
-from contextlib import ExitStack, contextmanager
+import io
+from contextlib import contextmanager
 from dataclasses import dataclass
 from functools import lru_cache
+from itertools import chain, islice
 from pathlib import Path
 from typing import (
     IO,
@@ -24,10 +26,11 @@ from typing import (
 from ..user_csv import Key, read_file
 from ..days import Dated, Dates, Window
 from ..errors import Refused
-from .._files import BLOCK, new_files, scratch_file
+from .._files import new_files, scratch_file
 from ..operators import OperatorRow, read_operators
 from ..places import PLACES, PlaceRow, Places
 from .._progress import Progress
+from .._workers import in_processes
 from .._schedules import numbered, numbers_of, rows_of
 from .._extract import Extract
 from .._tables import Table, rows_with
@@ -39,7 +42,8 @@ from .associations import CATEGORIES, ROLES, Association, LeftOut, Reason, assoc
 from .associations import by_uid, decide_all
 from .calls import RunsAs, Spot, Stop, Variant, stops_at
 from .compositions import compositions_of, groups_of, linked_dates
-from .routes import Routes
+from .parts import Index, Part, Schedules, in_thread, parts_of, processes_for
+from .routes import Route, Routes
 from .services import Services
 from .stops import Stops
 from .trains import Kind, PublicTrain, Record, ScheduleReader
@@ -87,25 +91,8 @@ class Wishes(NamedTuple):
     types: Mapping[Kind, int]
     whole_trains: bool
     publisher: feed.Publisher
-
-
-class Schedules:
-    """The rows of `schedules`, in a temporary file."""
-
-    def __init__(self, names: List[str], file: IO[bytes]) -> None:
-        self.names = names
-        self.file = file
-        self.count = 0
-
-    def fill(self, table: Table) -> None:
-        for block in iter(lambda: table.lines.read(BLOCK), b""):
-            self.count += block.count(b"\n")
-            self.file.write(block)
-
-    def lines(self) -> IO[bytes]:
-        """All rows, from the first on."""
-        self.file.seek(0)
-        return self.file
+    # how many processes cut the calls, unless that follows from how many there are
+    processes: Optional[int] = None
 
 
 @dataclass
@@ -169,9 +156,6 @@ class StopRows(NamedTuple):
 
 # The schedules of a train often call at the same times.
 KNOWN = 64
-# Where there are more schedules than so many for each train with associations, the calls of these
-# trains are read of an extract of them alone.
-MANY = 10
 
 
 def read_stops(extract: Extract, timetable: Timetable) -> Optional[StopRows]:
@@ -182,20 +166,12 @@ def read_stops(extract: Extract, timetable: Timetable) -> Optional[StopRows]:
     }
     if not locations:
         return None
+    keys = dict(keys_of(timetable.schedules.lines(), locations))
+    if not keys:
+        return None
     found: Dict[ScheduleKey, List[bytes]] = {}
-    with ExitStack() as stack:
-        part = None
-        if MANY * len(locations) < timetable.schedules.count:
-            part = stack.enter_context(extract.part(locations))
-        if part:
-            with part.table("schedules") as schedules:
-                keys = dict(keys_of(schedules.lines, locations))
-        else:
-            keys = dict(keys_of(timetable.schedules.lines(), locations))
-        if not keys:
-            return None
-        wanted = {number: locations[key[: key.index(b"\t")]] for number, key in keys.items()}
-        table = stack.enter_context((part or extract).table("calls"))
+    wanted = {number: locations[key[: key.index(b"\t")]] for number, key in keys.items()}
+    with extract.table("calls") as table:
         for row in rows_with(table.lines, table.names.index("location"), wanted):
             number, _, call = row.partition(b"\t")
             found.setdefault(keys[number], []).append(call)
@@ -243,6 +219,21 @@ class LeftOutCounts(NamedTuple):
         return lines
 
 
+class Written(NamedTuple):
+    """What a process has written, what it has met before or in this part, and the trains with
+    associations."""
+
+    variants: Dict[str, List[Variant]]
+    not_for_riders: int
+    places: Dict[bytes, List[bytes]]
+    routes: List[Route]
+    operators: Set[str]
+    services: List[Tuple[Dates, bytes]]
+    trips: bytes
+    stop_times: bytes
+    records: bytes
+
+
 class Conversion:
     """Writes the trips of a timetable."""
 
@@ -280,24 +271,99 @@ class Conversion:
         rows = feed.trip_record_rows(trip_id, uid, days_later, records)
         self.records.write(feed.csv_of(rows))
 
-    def read_trains(self, extract: Extract, progress: Progress) -> Dict[str, List[Variant]]:
+    def read_trains(
+        self, extract: Extract, processes: int, progress: Progress
+    ) -> Dict[str, List[Variant]]:
         """Writes the trips of all trains without associations. Returns the others."""
-        variants: Dict[str, List[Variant]] = {}
         stops = read_stops(extract, self.timetable)
-        count = self.timetable.schedules.count
-        with extract.table("public") as table:
-            found = self.reader.public_trains(self.timetable.schedules.lines(), table)
-            for cell, trains in found:
-                uid = cell.decode()
-                if progress.visible:
-                    progress.show_share("reading calls", int(trains[-1][3]), count)
-                if stops and uid in self.timetable.spots:
-                    with_records = self.records is not None
-                    spots = self.timetable.spots[uid]
-                    variants[uid] = variants_of(cell, trains, spots, stops, with_records)
-                else:
-                    self.write_plain(uid, trains)
+        schedules = self.timetable.schedules
+        if processes == 1:
+            with extract.table("public") as table:
+                return self.read_part(schedules.lines(), table, stops, progress)
+        variants: Dict[str, List[Variant]] = {}
+        # no thread is there yet when the processes start
+        written = in_processes(
+            lambda part: self.write_part(part, stops), self.parts(extract, progress), processes
+        )
+        first = next(written, None)
+        with in_thread(self.write_rows) as hand_on:
+            for part in chain([first] if first else [], written):
+                self.take(part)
+                variants.update(part.variants)
+                hand_on(part)
         return variants
+
+    def parts(self, extract: Extract, progress: Progress) -> Iterator[Part]:
+        schedules = self.timetable.schedules
+        with extract.table("public") as table:
+            for part in parts_of(Index(schedules), table):
+                progress.show_share("reading calls", part.number, schedules.count)
+                yield part
+
+    def read_part(
+        self,
+        lines: Iterable[bytes],
+        table: Table,
+        stops: Optional[StopRows],
+        progress: Optional[Progress] = None,
+    ) -> Dict[str, List[Variant]]:
+        """Likewise of some trains."""
+        variants: Dict[str, List[Variant]] = {}
+        count = self.timetable.schedules.count
+        for cell, trains in self.reader.public_trains(lines, table):
+            uid = cell.decode()
+            if progress and progress.visible:
+                progress.show_share("reading calls", int(trains[-1][3]), count)
+            if stops and uid in self.timetable.spots:
+                with_records = self.records is not None
+                spots = self.timetable.spots[uid]
+                variants[uid] = variants_of(cell, trains, spots, stops, with_records)
+            else:
+                self.write_plain(uid, trains)
+        return variants
+
+    def write_part(self, part: Part, stops: Optional[StopRows]) -> Written:
+        """What becomes of a part, in a process of its own."""
+        files = self.files
+        files.trips, files.stop_times = trips, stop_times = io.BytesIO(), io.BytesIO()
+        records = io.BytesIO()
+        if self.records is not None:
+            self.records = records
+        self.reader.not_for_riders = 0
+        known = len(files.routes.routes), len(files.services.ids)
+        lines = self.timetable.schedules.lines_in(part.first, part.last)
+        variants = self.read_part(lines, Table([], io.BytesIO(part.text)), stops)
+        places = {location: list(platforms) for location, platforms in files.stops.ids.items()}
+        return Written(
+            variants,
+            self.reader.not_for_riders,
+            places,
+            list(islice(files.routes.routes, known[0], None)),
+            files.routes.operators,
+            list(islice(files.services.ids.items(), known[1], None)),
+            trips.getvalue(),
+            stop_times.getvalue(),
+            records.getvalue(),
+        )
+
+    def take(self, part: Written) -> None:
+        """Takes over what a process has met: ids follow from what they are of, and services stand in
+        the order in which they are met."""
+        self.reader.not_for_riders += part.not_for_riders
+        for location, platforms in part.places.items():
+            known = self.files.stops.ids.get(location, {})
+            for platform in platforms:
+                if platform not in known:
+                    self.files.stops.new_id(location, platform)
+        self.files.routes.take(part.routes, part.operators)
+        for dates, name in part.services:
+            self.files.services.take(dates, name)
+
+    def write_rows(self, part: Written) -> None:
+        self.files.trips.write(part.trips)
+        self.files.stop_times.write(part.stop_times)
+        if self.records is not None:
+            self.records.write(part.records)
 
     def write_linked(self, variants: Mapping[str, Sequence[Variant]]) -> Tuple[List[Link], LeftOut]:
         """Writes the trips of trains with associations. Returns the links, and how many dates of
@@ -354,7 +420,8 @@ def convert(
             with feed.entry(archive, "stop_times") as stop_times:
                 trip_files = feed.TripFiles(stops, routes, services, (trips, stop_times))
                 conversion = Conversion(timetable, wishes, trip_files, records)
-                variants = conversion.read_trains(extract, progress)
+                processes = processes_for(wishes.processes, timetable.schedules.count)
+                variants = conversion.read_trains(extract, processes, progress)
                 links, left_out = conversion.write_linked(variants)
             if not routes.routes:
                 raise Refused(f"{extract.name} has no public train in its window")

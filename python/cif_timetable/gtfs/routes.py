@@ -2,7 +2,7 @@
 from __future__ import annotations
 
 from collections import defaultdict
-from typing import DefaultDict, Dict, List, Mapping, NamedTuple, Set, Tuple
+from typing import DefaultDict, Dict, Iterable, List, Mapping, NamedTuple, Set, Tuple
 
 from ..user_csv import Key, csv_cell
 from ..operators import OperatorRow, operator_name
@@ -92,7 +92,7 @@ class Routes:
         self.stops = stops
         self.known: Dict[RouteKey, Shown] = {}
         self.ends: Dict[bytes, End] = {}
-        self.routes: Set[Route] = set()
+        self.routes: Dict[Route, None] = {}
         self.operators: Set[str] = set()
 
     def shown(self, operator_and_type: bytes, ends: Ends) -> Shown:
@@ -110,9 +110,14 @@ class Routes:
         low, high = sorted((first, last))
         route = Route(coded(operator) or NO_OPERATOR, route_type, low, high)
         self.operators.add(operator)
-        self.routes.add(route)
+        self.routes[route] = None
         direction = first.id != low.id
         return Shown(route.id.encode(), csv_cell(last.name.encode()), b"%d" % direction)
+
+    def take(self, routes: Iterable[Route], operators: Iterable[str]) -> None:
+        """Takes over what another process has been asked for."""
+        self.routes.update(dict.fromkeys(routes))
+        self.operators.update(operators)
 
     def end(self, location: bytes) -> End:
         """The station or stop where a train ends."""

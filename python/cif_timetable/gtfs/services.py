@@ -65,10 +65,15 @@ class Services:
     def id_of(self, dates: Dates) -> bytes:
         found = self.ids.get(dates)
         if found is None:
-            found = self.ids[dates] = self.new_id(dates)
-            if self.dates.setdefault(found, dates) != dates:
-                raise Refused(f"two services have the id {found.decode()}")
+            found = self.new_id(dates)
+            self.take(dates, found)
         return found
+
+    def take(self, dates: Dates, name: bytes) -> None:
+        """Takes over a service, which another process may have met."""
+        self.ids[dates] = name
+        if self.dates.setdefault(name, dates) != dates:
+            raise Refused(f"two services have the id {name.decode()}")
 
     def new_id(self, dates: Dates) -> bytes:
         """A short hash of the dates, the same in each window that has them."""
