@@ -4,9 +4,10 @@ from __future__ import annotations
 import argparse
 import re
 import sys
+from collections.abc import Sequence
 from dataclasses import replace
 from itertools import takewhile
-from typing import IO, List, Optional, Sequence, Tuple
+from typing import IO
 
 from . import __version__  # pylint: disable=cyclic-import
 from ._extract import Request
@@ -23,8 +24,8 @@ class Parser(argparse.ArgumentParser):
     """Reads arguments. If the help or the version can't be written, the run ends as any other."""
 
     def parse_known_args(
-        self, args: Optional[Sequence[str]] = None, namespace: Optional[argparse.Namespace] = None
-    ) -> Tuple[argparse.Namespace, List[str]]:
+        self, args: Sequence[str] | None = None, namespace: argparse.Namespace | None = None
+    ) -> tuple[argparse.Namespace, list[str]]:
         words = sys.argv[1:] if args is None else args
         for word in takewhile(lambda word: word != "--", words):
             found = WITHOUT_VALUE.fullmatch(word)
@@ -32,7 +33,7 @@ class Parser(argparse.ArgumentParser):
                 self.error(f"argument {found[1] or found[2]}: expected one argument")
         return super().parse_known_args(words, namespace)
 
-    def _print_message(self, message: str, file: Optional[IO[str]] = None) -> None:
+    def _print_message(self, message: str, file: IO[str] | None = None) -> None:
         if file is not sys.stdout:
             super()._print_message(printable(message), file)
             return

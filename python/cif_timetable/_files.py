@@ -10,9 +10,10 @@ import signal
 import stat
 import sys
 import tempfile
+from collections.abc import Iterable, Iterator
 from contextlib import ExitStack, contextmanager, suppress
 from pathlib import Path
-from typing import IO, Any, Dict, Iterable, Iterator, List, Optional, Tuple
+from typing import IO, Any
 
 from .errors import Failed, Misused
 from ._running import INTERRUPTS, ends_by_interrupts, ignore_interrupts
@@ -56,7 +57,7 @@ def scratch_file() -> Iterator[IO[bytes]]:
 
 
 @contextmanager
-def scratch_file_with_path() -> Iterator[Tuple[IO[bytes], Path]]:
+def scratch_file_with_path() -> Iterator[tuple[IO[bytes], Path]]:
     """Likewise, with a path by which this process and those that it starts can open it. The file has
     no name, so that a run that is killed leaves nothing; only a system without /proc needs one."""
     descriptors = Path(f"/proc/{os.getpid()}/fd")
@@ -73,7 +74,7 @@ def scratch_file_with_path() -> Iterator[Tuple[IO[bytes], Path]]:
 # ---- the places of outputs
 
 
-def kind_of(text: str) -> Optional[str]:
+def kind_of(text: str) -> str | None:
     """What stands in the place of an output, if it isn't a regular file and can't be replaced. Where
     it can't be told what there is, nothing is written: the system may refuse to follow a link."""
     try:
@@ -101,20 +102,20 @@ def output_path(text: str) -> Path:
     return Path(os.path.realpath(text))
 
 
-def stat_of(name: str) -> Optional[os.stat_result]:
+def stat_of(name: str) -> os.stat_result | None:
     try:
         return os.stat(name)
     except OSError:
         return None
 
 
-def stat_of_extract(name: str) -> Optional[os.stat_result]:
+def stat_of_extract(name: str) -> os.stat_result | None:
     """Likewise, where `-` is standard input."""
     return os.fstat(sys.stdin.fileno()) if name == "-" else stat_of(name)
 
 
 def check_inputs_stay(
-    outputs: Iterable[Path], extracts: Iterable[str], others: Iterable[Optional[str]]
+    outputs: Iterable[Path], extracts: Iterable[str], others: Iterable[str | None]
 ) -> None:
     """Refuses an output in the place of an input. An extract may be standard input."""
     stats = [stat_of_extract(name) for name in extracts]
@@ -197,7 +198,7 @@ class UnfinishedFolder:
         os.close(descriptor)
         return Path(name)
 
-    def keep(self, place: Path) -> Optional[Path]:
+    def keep(self, place: Path) -> Path | None:
         """Keeps the file that is in a place, if there is one, so that it can be put back."""
         if not place.is_file():
             return None
@@ -239,10 +240,10 @@ class NewFiles:
     """New files, each written beside its place."""
 
     def __init__(self) -> None:
-        self.folders: Dict[Path, UnfinishedFolder] = {}
+        self.folders: dict[Path, UnfinishedFolder] = {}
         # the path of each new file, its place and its mode there
-        self.written: List[Tuple[Path, Path, int]] = []
-        self.opened: List[IO[bytes]] = []
+        self.written: list[tuple[Path, Path, int]] = []
+        self.opened: list[IO[bytes]] = []
 
     def beside(self, place: Path) -> Path:
         """The path of a file that is empty, for whoever opens it by its name. It is removed at the

@@ -6,9 +6,10 @@ import shutil
 import signal
 import subprocess
 import sysconfig
+from collections.abc import Callable, Collection, Iterator, Sequence
 from contextlib import contextmanager
 from pathlib import Path
-from typing import IO, Callable, Collection, Iterator, Optional, Sequence
+from typing import IO
 
 from .errors import FAILED, REFUSED, SUCCESS, USAGE, CifEnded, CifError, Failed, Unexpected
 from ._files import BLOCK, scratch_file
@@ -34,7 +35,7 @@ def own_places() -> Iterator[Path]:
     yield Path(sysconfig.get_path("scripts")) / "cif"
 
 
-def find_cif(asked: Optional[str] = None) -> Cif:
+def find_cif(asked: str | None = None) -> Cif:
     """The program that is asked for, or else that of the variable CIF, or the one that belongs to
     this package, or one on the PATH."""
     asked = asked if asked is not None else os.environ.get("CIF") or None
@@ -81,7 +82,7 @@ class Cif:
     def output(
         self,
         words: Sequence[str],
-        stdin: Optional[IO[bytes]] = None,
+        stdin: IO[bytes] | None = None,
         good: Collection[int] = (SUCCESS,),
         tell: Callable[[str], None] = ignored,
     ) -> Iterator[IO[bytes]]:

@@ -7,9 +7,10 @@ import re
 import signal
 import sys
 import traceback
+from collections.abc import Callable, Iterator
 from contextlib import contextmanager
 from types import FrameType
-from typing import IO, Callable, Iterator, Optional
+from typing import IO
 
 from .errors import FAILED, CifError, Failed
 from ._progress import Progress
@@ -44,7 +45,7 @@ def standard_output() -> Iterator[IO[bytes]]:
         yield output
 
 
-def nothing(_number: int, _frame: Optional[FrameType]) -> None:
+def nothing(_number: int, _frame: FrameType | None) -> None:
     """Does nothing. Where Python itself ignores a signal, it reports one that has just come."""
 
 
@@ -59,7 +60,7 @@ def ends_by_interrupts() -> bool:
     return any(signal.getsignal(number) == interrupt for number in INTERRUPTS)
 
 
-def interrupt(number: int, _frame: Optional[FrameType]) -> None:
+def interrupt(number: int, _frame: FrameType | None) -> None:
     """Ends the run. A further interrupt would come between what cleans up, so it is ignored."""
     ignore_interrupts()
     raise Failed(f"interrupted by {signal.Signals(number).name}")

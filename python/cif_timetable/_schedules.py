@@ -2,14 +2,14 @@
 from __future__ import annotations
 
 import re
+from collections.abc import Iterator
 from itertools import chain
-from typing import Iterator, List, Tuple
 
 from ._files import BLOCK
 from ._tables import Table
 
 # The number of a schedule, and its rows as they stand.
-Calls = Tuple[bytes, bytes]
+Calls = tuple[bytes, bytes]
 
 # The rows of a schedule, before the number of another one, and what a row of calls has after its
 # number and that of the call.
@@ -28,12 +28,12 @@ def numbered(schedule: bytes, text: bytes) -> bytes:
     return text[len(start) :].replace(b"\n" + start, b"\n")
 
 
-def rows_of(text: bytes) -> List[bytes]:
+def rows_of(text: bytes) -> list[bytes]:
     """The rows from the location on."""
     return ROW.findall(text)
 
 
-def numbers_of(text: bytes) -> List[int]:
+def numbers_of(text: bytes) -> list[int]:
     """The numbers of the calls."""
     return list(map(int, NUMBER.findall(text)))
 

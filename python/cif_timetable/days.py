@@ -5,9 +5,11 @@ A set of dates is a number: bit 0 is the first date of the window, bit 1 the nex
 from __future__ import annotations
 
 from array import array
+from collections.abc import Callable, Iterator, Sequence
 from datetime import date, timedelta
 from itertools import accumulate
-from typing import Callable, Dict, Generic, Iterator, List, Sequence, Tuple, TypeVar
+from typing import Generic, TypeVar
+
 
 Dates = int
 
@@ -23,15 +25,15 @@ count_of: Callable[[Dates], int] = getattr(int, "bit_count", ones_of)
 
 
 # Each date alone, which takes longer to make each time.
-SINGLE: List[Dates] = []
+SINGLE: list[Dates] = []
 
 
-def numbers_of(dates: Dates) -> List[int]:
+def numbers_of(dates: Dates) -> list[int]:
     """The numbers of the dates in a set, rising. The last ones are taken first, which makes the
     number that is left smaller."""
     while len(SINGLE) < dates.bit_length():
         SINGLE.append(1 << len(SINGLE))
-    found: List[int] = []
+    found: list[int] = []
     while dates:
         number = dates.bit_length() - 1
         found.append(number)
@@ -56,10 +58,10 @@ Item = TypeVar("Item")
 class Dated(Generic[Item]):
     """Items with their dates. Those on some dates are found without looking at all others."""
 
-    def __init__(self, items: Sequence[Tuple[Dates, Item]]) -> None:
+    def __init__(self, items: Sequence[tuple[Dates, Item]]) -> None:
         self.items = [item for _, item in items]
         # the dates of each item, then of each two beside each other, of each four, and so on
-        self.levels: List[List[Dates]] = [[dates for dates, _ in items]]
+        self.levels: list[list[Dates]] = [[dates for dates, _ in items]]
         while len(self.levels[-1]) > 1:
             below = self.levels[-1]
             pairs = [one | other for one, other in zip(below[::2], below[1::2])]
@@ -69,7 +71,7 @@ class Dated(Generic[Item]):
         """The dates of all items."""
         return self.levels[-1][0] if self.items else 0
 
-    def on(self, dates: Dates) -> Iterator[Tuple[Dates, Item]]:
+    def on(self, dates: Dates) -> Iterator[tuple[Dates, Item]]:
         """Each item on some of these dates, and which of them are its dates, in order."""
         pending = [(len(self.levels) - 1, 0)] if self.items else []
         while pending:
@@ -87,16 +89,16 @@ class Window:
 
     def __init__(self, first: date, last: date) -> None:
         count = (last - first).days + 1
-        self.days: List[date] = [first + timedelta(days=number) for number in range(count)]
+        self.days: list[date] = [first + timedelta(days=number) for number in range(count)]
         self.numbers = {day.isoformat().encode(): number for number, day in enumerate(self.days)}
         # of each weekday, Monday first, its dates
-        self.weekdays: List[Dates] = [0] * 7
+        self.weekdays: list[Dates] = [0] * 7
         for number, day in enumerate(self.days):
             self.weekdays[day.weekday()] |= 1 << number
         # all dates up to the one of a text, and all before it
         self.up_to = {text: (2 << number) - 1 for text, number in self.numbers.items()}
         self.before = {text: (1 << number) - 1 for text, number in self.numbers.items()}
-        self.of_days_run: Dict[bytes, Dates] = {}
+        self.of_days_run: dict[bytes, Dates] = {}
 
     def dates(self, first: bytes, last: bytes, days_run: bytes) -> Dates:
         """The dates from the first to the last that are of these weekdays, as a table has them."""
@@ -116,7 +118,7 @@ class TrainsPerDay(Generic[Key]):
 
     def __init__(self, window: Window) -> None:
         self.window = window
-        self.changes: Dict[Key, Dict[bytes, "array[int]"]] = {}
+        self.changes: dict[Key, dict[bytes, "array[int]"]] = {}
 
     def add(self, key: Key, first: bytes, last: bytes, days_run: bytes) -> None:
         """Adds a train from the first to the last date, as a table has them."""
@@ -127,7 +129,7 @@ class TrainsPerDay(Generic[Key]):
         changes[self.window.numbers[first]] += 1
         changes[self.window.numbers[last] + 1] -= 1
 
-    def counts(self) -> Iterator[Tuple[Key, List[int]]]:
+    def counts(self) -> Iterator[tuple[Key, list[int]]]:
         """What is said of trains, each with the number of trains on each date."""
         for key, by_days_run in self.changes.items():
             counts = [0] * len(self.window.days)

@@ -4,8 +4,9 @@ operators.csv has names from memory. What the user says of an operator comes bef
 """
 from __future__ import annotations
 
+from collections.abc import Mapping
 from pathlib import Path
-from typing import Dict, Mapping, NamedTuple, Optional
+from typing import NamedTuple
 
 from .user_csv import Field, Key, Layout, plain_text, read_file, web_address
 
@@ -17,7 +18,7 @@ class OperatorRow(NamedTuple):
 
     operator_code: str
     name: str
-    url: Optional[str]
+    url: str | None
 
 
 OPERATORS = Layout(
@@ -31,7 +32,7 @@ OPERATORS = Layout(
 )
 
 
-def read_operators(path: Optional[str]) -> Dict[Key, OperatorRow]:
+def read_operators(path: str | None) -> dict[Key, OperatorRow]:
     """What is known of operators, by their codes."""
     known = read_file(OPERATORS, str(KNOWN))
     known.update(read_file(OPERATORS, path))

@@ -2,8 +2,9 @@
 from __future__ import annotations
 
 import re
+from collections.abc import Iterable, Iterator, Mapping
 from dataclasses import dataclass
-from typing import Dict, Iterable, Iterator, List, Mapping, Match, NamedTuple, Optional, Tuple
+from typing import NamedTuple
 
 from .user_csv import Field, Key, Layout, degrees, plain_text
 from .model import Location
@@ -21,12 +22,12 @@ class PlaceRow(NamedTuple):
     """What the user says of a TIPLOC."""
 
     tiploc: str
-    name: Optional[str]
-    latitude: Optional[float]
-    longitude: Optional[float]
+    name: str | None
+    latitude: float | None
+    longitude: float | None
 
 
-Coordinates = Tuple[Optional[float], Optional[float]]
+Coordinates = tuple[float | None, float | None]
 NO_COORDINATES: Coordinates = (None, None)
 
 
@@ -58,7 +59,7 @@ PLACES = Layout(
 def in_small_letters(name: str) -> str:
     """A name that stands in capitals, as it is written otherwise."""
 
-    def written(found: Match[str]) -> str:
+    def written(found: re.Match[str]) -> str:
         word = found[0]
         if word in CAPITAL:
             return word
@@ -76,7 +77,7 @@ class Tiploc:
     name: str
     crs: str
     description: str
-    given_name: Optional[str]
+    given_name: str | None
     coordinates: Coordinates
 
 
@@ -92,10 +93,10 @@ class Places:
 
     def __init__(self, rows: Iterable[Location], given: Mapping[Key, PlaceRow]) -> None:
         self.given = given
-        self.tiplocs: Dict[str, Tiploc] = {}
-        self.of_station: Dict[str, List[Tiploc]] = {}
+        self.tiplocs: dict[str, Tiploc] = {}
+        self.of_station: dict[str, list[Tiploc]] = {}
         # those that were asked for, by their CRS codes
-        self.stations: Dict[str, Station] = {}
+        self.stations: dict[str, Station] = {}
         for row in rows:
             name = row.tiploc.strip()
             if name not in self.tiplocs:
@@ -116,7 +117,7 @@ class Places:
         """The TIPLOC of this name. Of one that the extract doesn't list no more is known."""
         return self.tiplocs.get(name) or self.add(name, "", "")
 
-    def siblings(self, tiploc: Tiploc) -> List[Tiploc]:
+    def siblings(self, tiploc: Tiploc) -> list[Tiploc]:
         """The TIPLOCs of its station, in the order of the extract."""
         return self.of_station.get(tiploc.crs) or [tiploc]
 

@@ -4,9 +4,9 @@ from __future__ import annotations
 
 import csv
 import re
+from collections.abc import Callable, Iterator, Sequence
 from dataclasses import dataclass
-from typing import IO, Callable, Dict, Generic, Iterator, List, NamedTuple, Optional, Sequence
-from typing import Tuple, TypeVar
+from typing import IO, Generic, NamedTuple, TypeVar
 
 from .errors import Refused
 
@@ -122,7 +122,7 @@ class Layout(Generic[Row]):
     mistakes: Callable[[Row], Iterator[str]] = nothing_wrong
 
 
-Key = Tuple[object, ...]
+Key = tuple[object, ...]
 
 
 # ---- reading
@@ -168,9 +168,9 @@ class Reader(Generic[Row]):
     def __init__(self, layout: Layout[Row], lines: Lines) -> None:
         self.layout = layout
         self.lines = lines
-        self.mistakes: List[Tuple[int, str]] = []
-        self.found: Dict[Key, Row] = {}
-        self.line_of: Dict[Key, int] = {}
+        self.mistakes: list[tuple[int, str]] = []
+        self.found: dict[Key, Row] = {}
+        self.line_of: dict[Key, int] = {}
 
     def read(self) -> None:
         """Reads all rows, up to one that can't be read."""
@@ -257,7 +257,7 @@ def shown(cell: str) -> str:
     return f"`{CONTROL.sub('?', cell)}`"
 
 
-def refusal(path: str, mistakes: Sequence[Tuple[int, str]]) -> Refused:
+def refusal(path: str, mistakes: Sequence[tuple[int, str]]) -> Refused:
     """What is wrong with a file, line by line."""
     lines = [f"{path}: line {line}: {mistake}" for line, mistake in mistakes[:MOST_MISTAKES]]
     if len(mistakes) > MOST_MISTAKES:
@@ -265,7 +265,7 @@ def refusal(path: str, mistakes: Sequence[Tuple[int, str]]) -> Refused:
     return Refused(*lines)
 
 
-def read_file(layout: Layout[Row], path: Optional[str]) -> Dict[Key, Row]:
+def read_file(layout: Layout[Row], path: str | None) -> dict[Key, Row]:
     """The rows of a file by their keys. Without a file there are none."""
     if path is None:
         return {}

@@ -189,6 +189,9 @@ class Opening(InFolder):
             # what changes is on the days after
             changed = cif.changes(timetable, EXAMPLES / "changed.cif")
             self.assertEqual(cif.ChangeCounts(0, 0, 0), changed.schedules)
+        with cif.open(EXTRACT, first=date(2026, 6, 7)) as timetable:
+            changed = cif.changes(timetable, EXAMPLES / "changed.cif")
+            self.assertEqual(cif.ChangeCounts(0, 0, 1), changed.schedules)
         for day in date(2026, 7, 1), date(1926, 6, 1), date(2126, 6, 1):
             with self.subTest(day), self.assertRaises(cif.CifError) as caught:
                 cif.open(EXTRACT, first=day)

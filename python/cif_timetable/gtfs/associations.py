@@ -6,8 +6,9 @@ that of its base train; the associated train's may be the day after or before.
 from __future__ import annotations
 
 from collections import Counter
+from collections.abc import Iterable, Mapping
 from enum import Enum
-from typing import Dict, Iterable, List, Mapping, NamedTuple, Optional, Tuple
+from typing import NamedTuple
 
 from ..days import Dated, Dates, Window, count_of, moved
 from ..model import Association as AssociationRow
@@ -51,7 +52,7 @@ class Reason(Enum):
     MIDNIGHTS = "its trains are linked over two midnights"
 
 
-LeftOut = Dict[Reason, int]
+LeftOut = dict[Reason, int]
 
 
 class Terms(NamedTuple):
@@ -98,12 +99,12 @@ class Association:
 
 
 # An association of a train, and the role of the train.
-Held = Tuple[Association, Role]
+Held = tuple[Association, Role]
 
 
-def associations_of(rows: Iterable[AssociationRow], window: Window) -> List[Association]:
+def associations_of(rows: Iterable[AssociationRow], window: Window) -> list[Association]:
     """The associations for passengers, those that differ in nothing but dates and diagram as one."""
-    found: Dict[Terms, Association] = {}
+    found: dict[Terms, Association] = {}
     for row in rows:
         if row.association_type in PASSENGER:
             terms = Terms(
@@ -121,9 +122,9 @@ def associations_of(rows: Iterable[AssociationRow], window: Window) -> List[Asso
     return list(found.values())
 
 
-def by_uid(associations: Iterable[Association]) -> Dict[str, List[Held]]:
+def by_uid(associations: Iterable[Association]) -> dict[str, list[Held]]:
     """The associations of each train that are shown on some date, with its role."""
-    found: Dict[str, List[Held]] = {}
+    found: dict[str, list[Held]] = {}
     for association in associations:
         if association.shown:
             for role in ROLES:
@@ -144,7 +145,7 @@ def wait_of(association: Association, base: Variant, associated: Variant) -> int
     return at_associated.departure + later - at_base.arrival
 
 
-def obstacle(association: Association, base: Variant, associated: Variant) -> Optional[Reason]:
+def obstacle(association: Association, base: Variant, associated: Variant) -> Reason | None:
     """Why the association of two trains can't be shown, or None."""
     category = association.terms.category
     number = base.number(association.spots[Role.BASE])

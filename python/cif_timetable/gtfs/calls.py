@@ -6,8 +6,9 @@ location, platform, arrival, departure, set down, pick up.
 from __future__ import annotations
 
 from bisect import bisect
+from collections.abc import Iterable, Sequence
 from functools import lru_cache
-from typing import Dict, Iterable, List, NamedTuple, Optional, Sequence, Set
+from typing import NamedTuple
 
 from ..days import Dated, Dates
 
@@ -115,7 +116,7 @@ def at_or_before(latest: int, seconds: int) -> int:
     return latest - (latest - seconds) % DAY
 
 
-def row_at(stop: Stop, before: Optional[bytes], after: Optional[bytes]) -> bytes:
+def row_at(stop: Stop, before: bytes | None, after: bytes | None) -> bytes:
     """A call for a stop that isn't public, between the calls beside it, of which one may lack:
     nobody gets on or off.
 
@@ -156,12 +157,12 @@ class Variant:
     )
 
     def __init__(
-        self, about: About, numbers: Sequence[int], rows: Sequence[bytes], stops: Dict[Spot, Stop]
+        self, about: About, numbers: Sequence[int], rows: Sequence[bytes], stops: dict[Spot, Stop]
     ) -> None:
         self.about = about
         self.dates: Dates = 0
-        self.records: List[RunsAs] = []
-        self.dated_records: Optional[Dated[Record]] = None
+        self.records: list[RunsAs] = []
+        self.dated_records: Dated[Record] | None = None
         self.first_public = numbers[0]
         self.last_public = numbers[-1]
         self.numbers = list(numbers)
@@ -169,7 +170,7 @@ class Variant:
         self.insert({int(stop.call): stop for stop in stops.values()})
         places = {number: at for at, number in enumerate(self.numbers)}
         self.place = {spot: places[int(stop.call)] for spot, stop in stops.items()}
-        self.hidden: Set[int] = set()
+        self.hidden: set[int] = set()
         if len(self.numbers) > len(numbers):
             public = set(numbers)
             self.hidden = {at for at, number in enumerate(self.numbers) if number not in public}
@@ -179,7 +180,7 @@ class Variant:
         self.last = places[self.last_public]
         self.ends = (location_of(self.rows[self.first]), location_of(self.rows[self.last]))
 
-    def insert(self, stops: Dict[int, Stop]) -> None:
+    def insert(self, stops: dict[int, Stop]) -> None:
         """Adds the stops that aren't public: first those after the first public call, in order, and
         then those before it, each beside one whose day is known."""
         others = sorted(stops.keys() - set(self.numbers))
@@ -192,16 +193,16 @@ class Variant:
             self.numbers.insert(at, number)
             self.rows.insert(at, row_at(stops[number], before, after))
 
-    def public_rows(self) -> List[bytes]:
+    def public_rows(self) -> list[bytes]:
         return [self.rows[at] for at in self.public]
 
-    def records_on(self, dates: Dates) -> List[Record]:
+    def records_on(self, dates: Dates) -> list[Record]:
         """The schedules that it is on some dates, once it has all."""
         if self.dated_records is None:
             self.dated_records = Dated(self.records)
         return [record for _, record in self.dated_records.on(dates)]
 
-    def number(self, spot: Spot) -> Optional[int]:
+    def number(self, spot: Spot) -> int | None:
         """The number of the call at a spot, if the train stops there."""
         place = self.place.get(spot)
         return None if place is None else self.numbers[place]
@@ -219,14 +220,14 @@ class RunsAs(NamedTuple):
 
 def stops_at(
     spots: Iterable[Spot], stops: Iterable[Stop], public: Iterable[int]
-) -> Dict[Spot, Stop]:
+) -> dict[Spot, Stop]:
     """The first stop of a train at each spot, of the sort that it has to be. It stops where its call
     has a working arrival or departure, or is public."""
     public_numbers = set(public)
     real = [
         stop for stop in stops if stop.arrival or stop.departure or int(stop.call) in public_numbers
     ]
-    first: Dict[Spot, Stop] = {}
+    first: dict[Spot, Stop] = {}
     for stop in real:
         for record in "", stop.record:
             first.setdefault(Spot(stop.location, stop.suffix, record), stop)

@@ -3,7 +3,7 @@ from __future__ import annotations
 
 import argparse
 import sys
-from typing import Optional, Sequence
+from collections.abc import Sequence
 
 from .._arguments import add_cif, add_help, add_names, add_reading, new_parser
 from .._arguments import add_processes, request_of
@@ -42,7 +42,7 @@ statuses:
 """
 
 
-def arguments_of(words: Optional[Sequence[str]]) -> argparse.Namespace:
+def arguments_of(words: Sequence[str] | None) -> argparse.Namespace:
     parser = new_parser(PROGRAM, ABOUT, STATUSES)
     add = parser.add_argument
     add_names(parser)
@@ -103,7 +103,7 @@ def outputs_of(asked: argparse.Namespace) -> Outputs:
     return Outputs(feed, wanted, trips)
 
 
-def publisher_of(name: Optional[str], url: Optional[str], email: Optional[str]) -> Publisher:
+def publisher_of(name: str | None, url: str | None, email: str | None) -> Publisher:
     """Who answers for the feed, as the user says."""
     for option, value, read in (
         ("--publisher", name, name_of_publisher),
@@ -142,7 +142,7 @@ def make_feed(asked: argparse.Namespace, progress: Progress) -> int:
     return WANTING
 
 
-def main(words: Optional[Sequence[str]] = None) -> int:
+def main(words: Sequence[str] | None = None) -> int:
     asked = arguments_of(words)
     leave_cycles()
     return run(PROGRAM, lambda progress: make_feed(asked, progress))

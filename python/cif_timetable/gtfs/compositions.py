@@ -6,7 +6,8 @@ how many days later than that one it runs. So a composition holds for many dates
 """
 from __future__ import annotations
 
-from typing import Collection, Dict, Iterator, List, Mapping, NamedTuple, Sequence, Tuple
+from collections.abc import Collection, Iterator, Mapping, Sequence
+from typing import NamedTuple
 
 from ..days import Dated, Dates, count_of, moved
 
@@ -39,7 +40,7 @@ class Group(NamedTuple):
     nodes: Collection[Node]
     edges: Collection[Edge]
 
-    def offsets(self) -> List[int]:
+    def offsets(self) -> list[int]:
         return sorted({node.offset for node in self.nodes})
 
 
@@ -55,10 +56,10 @@ class Composition(NamedTuple):
 OfUid = Mapping[str, Dated[Held]]
 
 # Dates, and the edges that are there on all of them.
-EdgesOnDates = Tuple[Dates, List[Edge]]
+EdgesOnDates = tuple[Dates, list[Edge]]
 
 
-def told_apart(edges: Sequence[Tuple[Dates, Edge]]) -> List[EdgesOnDates]:
+def told_apart(edges: Sequence[tuple[Dates, Edge]]) -> list[EdgesOnDates]:
     """The dates of edges, told apart by which of these are there: those of each half of the edges,
     and then those of both."""
     if len(edges) == 1:
@@ -66,7 +67,7 @@ def told_apart(edges: Sequence[Tuple[Dates, Edge]]) -> List[EdgesOnDates]:
         return [(dates, [edge])]
     middle = len(edges) // 2
     one, other = (Dated(told_apart(half)) for half in (edges[:middle], edges[middle:]))
-    found: List[EdgesOnDates] = []
+    found: list[EdgesOnDates] = []
     for dates, of_one in zip(one.levels[0], one.items):
         found += [(both, of_one + of_other) for both, of_other in other.on(dates)]
         found.append((dates & ~other.dates(), of_one))
@@ -99,7 +100,7 @@ class Growth:
                     self.nodes[node] = None
                     self.pending.append(node)
 
-    def edges_at(self, node: Node, of_uid: OfUid) -> List[Tuple[Dates, Edge]]:
+    def edges_at(self, node: Node, of_uid: OfUid) -> list[tuple[Dates, Edge]]:
         """The further edges of a train on some of its dates, which are those of the group."""
         found = []
         held = of_uid[node.uid].on(moved(self.dates, node.offset)) if node.uid in of_uid else ()
@@ -154,7 +155,7 @@ def linked_dates(held: Sequence[Held]) -> Dates:
 
 def all_groups(dates_of: Mapping[str, Dates], of_uid: OfUid) -> Iterator[Group]:
     """All groups of these trains on these dates, and those with which they are linked, each once."""
-    covered: Dict[str, Dates] = {}
+    covered: dict[str, Dates] = {}
     for uid, dates in dates_of.items():
         left = dates & of_uid[uid].dates() & ~covered.get(uid, 0)
         for group in groups_around(uid, left, of_uid) if left else ():
@@ -172,13 +173,13 @@ def drop_overnight(group: Group, left_out: LeftOut) -> None:
             left_out[Reason.MIDNIGHTS] += count_of(group.dates)
 
 
-def groups_of(associations: Sequence[Association], left_out: LeftOut) -> List[Group]:
+def groups_of(associations: Sequence[Association], left_out: LeftOut) -> list[Group]:
     """All groups. Where trains of one would have to count to the date two days before theirs, its
     overnight associations aren't shown."""
     held = by_uid(associations)
     of_uid = dated(held)
-    found: List[Group] = []
-    dates_left: Dict[str, Dates] = {}
+    found: list[Group] = []
+    dates_left: dict[str, Dates] = {}
     for group in list(all_groups({uid: -1 for uid in of_uid}, of_uid)):
         offsets = group.offsets()
         if offsets[-1] - offsets[0] < 2:
@@ -192,7 +193,7 @@ def groups_of(associations: Sequence[Association], left_out: LeftOut) -> List[Gr
 
 def compositions_of(group: Group, variants: Variants) -> Iterator[Composition]:
     """A group on the dates on which all its trains are the same."""
-    found: List[Tuple[Dates, Dict[Node, Variant]]] = [(group.dates, {})]
+    found: list[tuple[Dates, dict[Node, Variant]]] = [(group.dates, {})]
     for node in group.nodes:
         known, found = found, []
         for dates, chosen in known:

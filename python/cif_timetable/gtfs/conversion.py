@@ -2,26 +2,13 @@
 from __future__ import annotations
 
 import io
+from collections.abc import Callable, Collection, Iterable, Iterator, Mapping, Sequence
 from contextlib import contextmanager
 from dataclasses import dataclass
 from functools import lru_cache
 from itertools import chain, islice
 from pathlib import Path
-from typing import (
-    IO,
-    Callable,
-    Collection,
-    Dict,
-    Iterable,
-    Iterator,
-    List,
-    Mapping,
-    NamedTuple,
-    Optional,
-    Sequence,
-    Set,
-    Tuple,
-)
+from typing import IO, NamedTuple
 
 from ..user_csv import Key, read_file
 from ..days import Dated, Dates, Window
@@ -62,10 +49,10 @@ class UserFiles(NamedTuple):
 
 
 def user_files(
-    places: Optional[str],
-    operators: Optional[str],
-    interchange: Optional[str],
-    links: Optional[str],
+    places: str | None,
+    operators: str | None,
+    interchange: str | None,
+    links: str | None,
 ) -> UserFiles:
     """What the files of the user have, as far as there are any."""
     return UserFiles(
@@ -81,8 +68,8 @@ class Outputs(NamedTuple):
     without coordinates, and the schedules of trips."""
 
     feed: Path
-    wanted: Optional[ListPlace]
-    trips: Optional[Path]
+    wanted: ListPlace | None
+    trips: Path | None
 
 
 class Wishes(NamedTuple):
@@ -92,7 +79,7 @@ class Wishes(NamedTuple):
     whole_trains: bool
     publisher: feed.Publisher
     # how many processes cut the calls, unless that follows from how many there are
-    processes: Optional[int] = None
+    processes: int | None = None
 
 
 @dataclass
@@ -102,14 +89,14 @@ class Timetable:
     header: Header
     window: Window
     places: Places
-    associations: List[Association]
+    associations: list[Association]
     schedules: Schedules
     # of each train with associations, where it has to stop for these
-    spots: Dict[str, Set[Spot]]
+    spots: dict[str, set[Spot]]
 
 
-def spots_of(associations: List[Association]) -> Dict[str, Set[Spot]]:
-    found: Dict[str, Set[Spot]] = {}
+def spots_of(associations: list[Association]) -> dict[str, set[Spot]]:
+    found: dict[str, set[Spot]] = {}
     for association in associations:
         if association.terms.category in CATEGORIES:
             for role in ROLES:
@@ -135,7 +122,7 @@ def read_timetable(extract: Extract, given: Mapping[Key, PlaceRow]) -> Iterator[
 ScheduleKey = bytes
 
 
-def keys_of(lines: Iterable[bytes], uids: Collection[bytes]) -> Iterator[Tuple[bytes, ScheduleKey]]:
+def keys_of(lines: Iterable[bytes], uids: Collection[bytes]) -> Iterator[tuple[bytes, ScheduleKey]]:
     """The number of each schedule of some UIDs, and which one it is. The lines are those of `schedules`."""
     for line in lines:
         number, uid, others = line.split(b"\t", 2)
@@ -147,10 +134,10 @@ class StopRows(NamedTuple):
     """Of each schedule with associations the calls at their locations, as rows of `calls` without
     the number of the schedule, and what reads these."""
 
-    rows: Dict[ScheduleKey, List[bytes]]
+    rows: dict[ScheduleKey, list[bytes]]
     read: Callable[[bytes], Stop]
 
-    def take(self, schedule: ScheduleKey) -> List[bytes]:
+    def take(self, schedule: ScheduleKey) -> list[bytes]:
         return self.rows.pop(schedule, [])
 
 
@@ -158,7 +145,7 @@ class StopRows(NamedTuple):
 KNOWN = 64
 
 
-def read_stops(extract: Extract, timetable: Timetable) -> Optional[StopRows]:
+def read_stops(extract: Extract, timetable: Timetable) -> StopRows | None:
     """The calls where associations may be. There are none if no schedule has associations."""
     locations = {
         uid.encode(): {spot.location.encode() for spot in spots}
@@ -169,7 +156,7 @@ def read_stops(extract: Extract, timetable: Timetable) -> Optional[StopRows]:
     keys = dict(keys_of(timetable.schedules.lines(), locations))
     if not keys:
         return None
-    found: Dict[ScheduleKey, List[bytes]] = {}
+    found: dict[ScheduleKey, list[bytes]] = {}
     wanted = {number: locations[key[: key.index(b"\t")]] for number, key in keys.items()}
     with extract.table("calls") as table:
         for row in rows_with(table.lines, table.names.index("location"), wanted):
@@ -182,12 +169,12 @@ def read_stops(extract: Extract, timetable: Timetable) -> Optional[StopRows]:
 def variants_of(
     uid: bytes,
     trains: Iterable[PublicTrain],
-    spots: Set[Spot],
+    spots: set[Spot],
     stops: StopRows,
     with_records: bool,
-) -> List[Variant]:
+) -> list[Variant]:
     """The public trains of one UID, those that differ in nothing but dates as one."""
-    found: Dict[object, Variant] = {}
+    found: dict[object, Variant] = {}
     for dates, about, record, schedule, text in trains:
         at_spots = [stops.read(row) for row in stops.take(b"\t".join((uid, *record[:3])))]
         key = (about, numbered(schedule, text), *at_spots)
@@ -208,7 +195,7 @@ class LeftOutCounts(NamedTuple):
     trains: int
     associations: LeftOut
 
-    def lines(self) -> List[str]:
+    def lines(self) -> list[str]:
         lines = [
             f"associations left out: {reason.value}: {self.associations[reason]}"
             for reason in Reason
@@ -223,12 +210,12 @@ class Written(NamedTuple):
     """What a process has written, what it has met before or in this part, and the trains with
     associations."""
 
-    variants: Dict[str, List[Variant]]
+    variants: dict[str, list[Variant]]
     not_for_riders: int
-    places: Dict[bytes, List[bytes]]
-    routes: List[Route]
-    operators: Set[str]
-    services: List[Tuple[Dates, bytes]]
+    places: dict[bytes, list[bytes]]
+    routes: list[Route]
+    operators: set[str]
+    services: list[tuple[Dates, bytes]]
     trips: bytes
     stop_times: bytes
     records: bytes
@@ -242,7 +229,7 @@ class Conversion:
         timetable: Timetable,
         wishes: Wishes,
         files: feed.TripFiles,
-        records: Optional[IO[bytes]],
+        records: IO[bytes] | None,
     ) -> None:
         self.timetable = timetable
         self.wishes = wishes
@@ -273,14 +260,14 @@ class Conversion:
 
     def read_trains(
         self, extract: Extract, processes: int, progress: Progress
-    ) -> Dict[str, List[Variant]]:
+    ) -> dict[str, list[Variant]]:
         """Writes the trips of all trains without associations. Returns the others."""
         stops = read_stops(extract, self.timetable)
         schedules = self.timetable.schedules
         if processes == 1:
             with extract.table("public") as table:
                 return self.read_part(schedules.lines(), table, stops, progress)
-        variants: Dict[str, List[Variant]] = {}
+        variants: dict[str, list[Variant]] = {}
         # no thread is there yet when the processes start
         written = in_processes(
             lambda part: self.write_part(part, stops), self.parts(extract, progress), processes
@@ -304,11 +291,11 @@ class Conversion:
         self,
         lines: Iterable[bytes],
         table: Table,
-        stops: Optional[StopRows],
-        progress: Optional[Progress] = None,
-    ) -> Dict[str, List[Variant]]:
+        stops: StopRows | None,
+        progress: Progress | None = None,
+    ) -> dict[str, list[Variant]]:
         """Likewise of some trains."""
-        variants: Dict[str, List[Variant]] = {}
+        variants: dict[str, list[Variant]] = {}
         count = self.timetable.schedules.count
         for cell, trains in self.reader.public_trains(lines, table):
             uid = cell.decode()
@@ -322,7 +309,7 @@ class Conversion:
                 self.write_plain(uid, trains)
         return variants
 
-    def write_part(self, part: Part, stops: Optional[StopRows]) -> Written:
+    def write_part(self, part: Part, stops: StopRows | None) -> Written:
         """What becomes of a part, in a process of its own."""
         files = self.files
         files.trips, files.stop_times = trips, stop_times = io.BytesIO(), io.BytesIO()
@@ -365,7 +352,7 @@ class Conversion:
         if self.records is not None:
             self.records.write(part.records)
 
-    def write_linked(self, variants: Mapping[str, Sequence[Variant]]) -> Tuple[List[Link], LeftOut]:
+    def write_linked(self, variants: Mapping[str, Sequence[Variant]]) -> tuple[list[Link], LeftOut]:
         """Writes the trips of trains with associations. Returns the links, and how many dates of
         associations are left out by reason."""
         associations = self.timetable.associations

@@ -5,9 +5,10 @@ import csv
 import io
 import shutil
 import zipfile
+from collections.abc import Iterable, Iterator, Mapping, Sequence
 from contextlib import contextmanager
 from itertools import islice
-from typing import IO, Dict, Iterable, Iterator, List, Mapping, NamedTuple, Sequence, Tuple, Union
+from typing import IO, NamedTuple
 
 from ..user_csv import Key, csv_cell
 from ..days import WEEKDAYS, Dates
@@ -25,7 +26,7 @@ from .user_files import InterchangeRow, LinkRow
 WEB = "https://www.nationalrail.co.uk/"
 TIMEZONE = "Europe/London"
 LANGUAGE = "en"
-HEADINGS: Dict[str, str] = {
+HEADINGS: dict[str, str] = {
     "agency": "agency_id agency_name agency_url agency_timezone agency_lang",
     "stops": "stop_id stop_code stop_name stop_lat stop_lon location_type parent_station"
     " platform_code",
@@ -45,7 +46,7 @@ ROWS = 10_000
 # It takes half the time of the usual level, and makes a zip that is a tenth larger.
 LEVEL = 4
 
-Cell = Union[str, int, float, None]
+Cell = str | int | float | None
 Row = Sequence[Cell]
 
 
@@ -103,7 +104,7 @@ class TripFiles:
     """Writes the rows of trips and of their stop times as they come."""
 
     def __init__(
-        self, stops: Stops, routes: Routes, services: Services, files: Tuple[IO[bytes], IO[bytes]]
+        self, stops: Stops, routes: Routes, services: Services, files: tuple[IO[bytes], IO[bytes]]
     ) -> None:
         self.stops = stops
         self.routes = routes
@@ -162,7 +163,7 @@ def transfer_rows(
     stops: Stops,
     interchange: Mapping[Key, InterchangeRow],
     fixed_links: Mapping[Key, LinkRow],
-) -> List[TransferRow]:
+) -> list[TransferRow]:
     """The rows of linked trips, of the times of change, and of the links between stations."""
     rows = []
     for one, other in links:

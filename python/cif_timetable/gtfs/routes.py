@@ -2,7 +2,8 @@
 from __future__ import annotations
 
 from collections import defaultdict
-from typing import DefaultDict, Dict, Iterable, List, Mapping, NamedTuple, Set, Tuple
+from collections.abc import Iterable, Mapping
+from typing import NamedTuple
 
 from ..user_csv import Key, csv_cell
 from ..operators import OperatorRow, operator_name
@@ -50,11 +51,11 @@ class Route(NamedTuple):
         return RouteRow(self.id, self.agency, name, self.type)
 
 
-def rows_of_namesakes(routes: List[Route]) -> List[RouteRow]:
+def rows_of_namesakes(routes: list[Route]) -> list[RouteRow]:
     """The rows of routes that have the same agency, type and name. An end has its code if not all of
     them have it."""
 
-    def shown(end: End, ends: Set[End]) -> str:
+    def shown(end: End, ends: set[End]) -> str:
         return end.name if len(ends) == 1 else f"{end.name} ({end.code})"
 
     low, high = {route.low for route in routes}, {route.high for route in routes}
@@ -80,9 +81,9 @@ class Shown(NamedTuple):
 
 
 # The locations between which a train goes.
-Ends = Tuple[bytes, bytes]
+Ends = tuple[bytes, bytes]
 # The operator and the route type of a train as they stand in what trips show, and its ends.
-RouteKey = Tuple[bytes, Ends]
+RouteKey = tuple[bytes, Ends]
 
 
 class Routes:
@@ -90,10 +91,10 @@ class Routes:
 
     def __init__(self, stops: Stops) -> None:
         self.stops = stops
-        self.known: Dict[RouteKey, Shown] = {}
-        self.ends: Dict[bytes, End] = {}
-        self.routes: Dict[Route, None] = {}
-        self.operators: Set[str] = set()
+        self.known: dict[RouteKey, Shown] = {}
+        self.ends: dict[bytes, End] = {}
+        self.routes: dict[Route, None] = {}
+        self.operators: set[str] = set()
 
     def shown(self, operator_and_type: bytes, ends: Ends) -> Shown:
         """How a trip is shown whose train goes from one location to another."""
@@ -128,9 +129,9 @@ class Routes:
             self.ends[location] = End(self.stops.end_of(name), station, code)
         return self.ends[location]
 
-    def rows(self) -> List[RouteRow]:
+    def rows(self) -> list[RouteRow]:
         """The rows of routes.txt, rising by their ids."""
-        namesakes: DefaultDict[Tuple[str, int, str], List[Route]] = defaultdict(list)
+        namesakes: defaultdict[tuple[str, int, str], list[Route]] = defaultdict(list)
         for route in self.routes:
             namesakes[route.agency, route.type, route.name].append(route)
         rows = [row for routes in namesakes.values() for row in rows_of_namesakes(routes)]
@@ -138,7 +139,7 @@ class Routes:
 
     def agencies(
         self, given: Mapping[Key, OperatorRow], web: str, timezone: str, language: str
-    ) -> List[AgencyRow]:
+    ) -> list[AgencyRow]:
         """The rows of agency.txt, with the names and addresses that the user gives."""
         rows = []
         for operator in sorted(self.operators):

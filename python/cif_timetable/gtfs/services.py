@@ -1,9 +1,10 @@
 """The services of GTFS: each is a set of dates."""
 from __future__ import annotations
 
+from collections.abc import Iterator
 from hashlib import blake2b
 from itertools import accumulate
-from typing import Dict, Iterator, NamedTuple, Tuple
+from typing import NamedTuple
 
 from ..days import Dates, Window, between, count_of, numbers_of
 from ..errors import Refused
@@ -50,8 +51,8 @@ class Services:
         # what stands behind the id of a service for each date
         self.added = [f",{text},1\n" for text in self.texts]
         self.removed = [f",{text},2\n" for text in self.texts]
-        self.ids: Dict[Dates, bytes] = {}
-        self.dates: Dict[bytes, Dates] = {}
+        self.ids: dict[Dates, bytes] = {}
+        self.dates: dict[bytes, Dates] = {}
         # of each weekday, Monday first, its dates, and how many of them are before each number
         numbers = range(len(window.days))
         self.weekdays = [
@@ -59,8 +60,8 @@ class Services:
             for of_weekday in window.weekdays
         ]
         # the weekdays of a week by the day with which it begins, and those that are marked
-        self.of_week: Dict[Tuple[int, Dates], Weekdays] = {}
-        self.marked: Dict[Tuple[bool, ...], Weekdays] = {}
+        self.of_week: dict[tuple[int, Dates], Weekdays] = {}
+        self.marked: dict[tuple[bool, ...], Weekdays] = {}
 
     def id_of(self, dates: Dates) -> bytes:
         found = self.ids.get(dates)
@@ -81,7 +82,7 @@ class Services:
         content = f"{self.texts[first]} {dates >> first:x}"
         return blake2b(content.encode(), digest_size=ID_BYTES).hexdigest().encode()
 
-    def weekdays_marked(self, marks: Tuple[bool, ...]) -> Weekdays:
+    def weekdays_marked(self, marks: tuple[bool, ...]) -> Weekdays:
         """The weekdays that are marked, Monday first."""
         found = self.marked.get(marks)
         if found is None:

@@ -6,7 +6,7 @@ without a CRS code is a stop by itself, whatever its platforms.
 from __future__ import annotations
 
 import re
-from typing import Dict, List, NamedTuple, Optional
+from typing import NamedTuple
 
 from ..places import NO_COORDINATES, Places, Tiploc
 
@@ -38,8 +38,8 @@ class StopRow(NamedTuple):
     id: str
     code: str
     name: str
-    latitude: Optional[float]
-    longitude: Optional[float]
+    latitude: float | None
+    longitude: float | None
     location_type: int
     parent: str
     platform: str
@@ -51,7 +51,7 @@ class Stops:
     def __init__(self, places: Places) -> None:
         self.places = places
         # plain ones, as Python looks into a subclass of `dict` far slower
-        self.ids: Dict[bytes, Dict[bytes, bytes]] = {}
+        self.ids: dict[bytes, dict[bytes, bytes]] = {}
 
     def new_id(self, location: bytes, platform: bytes) -> bytes:
         """The id of a stop that `ids` hasn't got."""
@@ -66,11 +66,11 @@ class Stops:
         tiploc = self.places.tiploc(name)
         return station_id(tiploc.crs) if tiploc.crs else stop_id(name)
 
-    def used(self) -> List[Tiploc]:
+    def used(self) -> list[Tiploc]:
         """The TIPLOCs that have a stop, rising."""
         return [self.places.tiploc(name) for name in sorted({name.decode() for name in self.ids})]
 
-    def without_coordinates(self) -> List[Tiploc]:
+    def without_coordinates(self) -> list[Tiploc]:
         """The TIPLOCs in use that have no coordinates, nor their stations."""
         return [
             tiploc
@@ -84,7 +84,7 @@ class Stops:
         name = self.places.station_name(first)
         return StopRow(station_id(crs), crs, name, latitude, longitude, STATION, "", "")
 
-    def stations(self) -> List[StopRow]:
+    def stations(self) -> list[StopRow]:
         """The stations in use, rising by CRS code."""
         return [self.station(crs) for crs in sorted({tiploc.crs for tiploc in self.used()} - {""})]
 
@@ -96,7 +96,7 @@ class Stops:
         below = platform if parent else ""
         return StopRow(stop.decode(), tiploc.crs, name, latitude, longitude, STOP, parent, below)
 
-    def rows(self) -> List[StopRow]:
+    def rows(self) -> list[StopRow]:
         """The rows of stops.txt: stations, and then the stops that calls have."""
         # a TIPLOC without a CRS code has one stop for all its platforms
         stops = {

@@ -1,9 +1,10 @@
 """The public trains of an extract: schedules with two public calls or more that are for riders."""
 from __future__ import annotations
 
+from collections.abc import Iterable, Iterator, Mapping
 from enum import Enum
 from operator import itemgetter
-from typing import Dict, Iterable, Iterator, List, Mapping, NamedTuple, Optional, Tuple
+from typing import NamedTuple
 
 from ..errors import Unexpected
 from ..days import Dates, Window, count_of
@@ -24,7 +25,7 @@ class Kind(Enum):
 
 
 # The route types of GTFS.
-TYPES: Dict[Kind, int] = {
+TYPES: dict[Kind, int] = {
     Kind.RAIL: 2,
     Kind.SLEEPER: 2,
     Kind.METRO: 1,
@@ -32,7 +33,7 @@ TYPES: Dict[Kind, int] = {
     Kind.REPLACEMENT: 3,
     Kind.SHIP: 4,
 }
-EXTENDED_TYPES: Dict[Kind, int] = {**TYPES, Kind.SLEEPER: 105, Kind.REPLACEMENT: 714}
+EXTENDED_TYPES: dict[Kind, int] = {**TYPES, Kind.SLEEPER: 105, Kind.REPLACEMENT: 714}
 
 
 class Sort(NamedTuple):
@@ -65,10 +66,10 @@ def kind_of(sort: Sort) -> Kind:
 
 
 # First and last date, days run, and the retail service id of a schedule, as they stand.
-Record = Tuple[bytes, bytes, bytes, bytes]
+Record = tuple[bytes, bytes, bytes, bytes]
 # A schedule for riders with two public calls or more: when it runs, what its train is, its record, its
 # number, and its rows of `public`.
-PublicTrain = Tuple[Dates, About, Record, bytes, bytes]
+PublicTrain = tuple[Dates, About, Record, bytes, bytes]
 
 # The first fields of `schedules`, and of the others those that are read here.
 FIRST = "schedule uid first_date last_date days_run".split()
@@ -80,7 +81,7 @@ NO_CALLS = (b"", b"")
 class ScheduleReader:
     """Reads rows of `schedules`."""
 
-    def __init__(self, names: List[str], window: Window, types: Mapping[Kind, int]) -> None:
+    def __init__(self, names: list[str], window: Window, types: Mapping[Kind, int]) -> None:
         if names[: len(FIRST)] != FIRST:
             raise Unexpected("cif writes another table of schedules: is it another release?")
         others = names[len(FIRST) :]
@@ -91,14 +92,14 @@ class ScheduleReader:
         # on how many dates a train isn't for riders
         self.not_for_riders = 0
         # the route type of each sort and a line feed, or None if it isn't for riders
-        self.known: Dict[Tuple[bytes, ...], Optional[bytes]] = {}
+        self.known: dict[tuple[bytes, ...], bytes | None] = {}
 
-    def route_type(self, status: bytes, category: bytes, sleepers: bytes) -> Optional[bytes]:
+    def route_type(self, status: bytes, category: bytes, sleepers: bytes) -> bytes | None:
         sort = Sort(status.decode(), category.decode(), sleepers.decode())
         is_shown = is_for_riders(sort.status, sort.category)
         return b"%d\n" % self.types[kind_of(sort)] if is_shown else None
 
-    def read_others(self, text: bytes) -> Tuple[bytes, Optional[About]]:
+    def read_others(self, text: bytes) -> tuple[bytes, About | None]:
         """The retail service id, and what the train is, of the fields after the first ones."""
         cells = text.rstrip(b"\n").split(b"\t")
         retail, identity, operator = self.shown_at(cells)
@@ -112,15 +113,15 @@ class ScheduleReader:
 
     def public_trains(
         self, schedules: Iterable[bytes], table: Table
-    ) -> Iterator[Tuple[bytes, List[PublicTrain]]]:
+    ) -> Iterator[tuple[bytes, list[PublicTrain]]]:
         """The public trains of each UID that has one, in the order of the extract. The lines are those
         of `schedules`."""
         dates_of = self.window.dates
         calls = calls_by_schedule(table)
         number, text = next(calls, NO_CALLS)
         known = retail = of_uid = b""
-        about: Optional[About] = None
-        trains: List[PublicTrain] = []
+        about: About | None = None
+        trains: list[PublicTrain] = []
         for line in schedules:
             schedule, uid, first, last, days_run, others = line.split(b"\t", 5)
             if schedule != number:

@@ -2,8 +2,9 @@
 from __future__ import annotations
 
 from bisect import bisect, bisect_left
+from collections.abc import Iterable, Iterator, Mapping, Sequence
 from hashlib import blake2b
-from typing import Dict, Iterable, Iterator, List, Mapping, NamedTuple, Optional, Sequence, Tuple
+from typing import NamedTuple
 
 from ..days import Dates, moved
 from ..errors import Refused
@@ -40,7 +41,7 @@ class Trip:
         self.block = b""
         self.days_later = 0
         # in order, each once
-        self.records: Dict[Record, None] = {}
+        self.records: dict[Record, None] = {}
 
 
 def ends_of(rows: Sequence[bytes]) -> Ends:
@@ -64,10 +65,10 @@ class TripsOfUid:
     def __init__(self, uid: str) -> None:
         self.uid = uid
         self.name = coded(uid)
-        self.trips: Dict[bytes, Trip] = {}
+        self.trips: dict[bytes, Trip] = {}
 
     def add(
-        self, about: About, rows: Sequence[bytes], ends: Optional[Ends] = None, mark: bytes = b""
+        self, about: About, rows: Sequence[bytes], ends: Ends | None = None, mark: bytes = b""
     ) -> Trip:
         """The trip of a train that has these rows, and other ends if it is a part of a train. A mark
         tells those of compositions from others."""
@@ -102,14 +103,14 @@ class PlainTrip:
         self.about = about
         self.rows = rows
         self.dates: Dates = 0
-        self.records: List[Record] = []
+        self.records: list[Record] = []
 
 
-def plain_trips(uid: str, trains: Iterable[PublicTrain]) -> Dict[bytes, PlainTrip]:
+def plain_trips(uid: str, trains: Iterable[PublicTrain]) -> dict[bytes, PlainTrip]:
     """The trips of one UID by their ids. Schedules that differ in nothing but dates are one."""
     name = coded(uid)
-    trips: Dict[bytes, PlainTrip] = {}
-    known: Dict[bytes, PlainTrip] = {}
+    trips: dict[bytes, PlainTrip] = {}
+    known: dict[bytes, PlainTrip] = {}
     for dates, about, record, _, text in trains:
         rows = rows_of(text)
         content = about + b"".join(rows)
@@ -139,9 +140,9 @@ class Held(NamedTuple):
 class Part(NamedTuple):
     """A part of a train: its rows, and the associations that link its end and its beginning."""
 
-    rows: List[bytes]
-    ends: List[Edge]
-    begins: List[Edge]
+    rows: list[bytes]
+    ends: list[Edge]
+    begins: list[Edge]
 
 
 class LinkedTrain(NamedTuple):
@@ -149,14 +150,14 @@ class LinkedTrain(NamedTuple):
 
     variant: Variant
     days: int
-    parts: List[Part]
+    parts: list[Part]
 
     def text(self) -> bytes:
         """What tells it from other trains."""
         rows = b"|\n".join(b"".join(part.rows) for part in self.parts)
         return self.variant.about + b"%d\n" % self.days + rows
 
-    def section(self, start: int, stop: int) -> List[bytes]:
+    def section(self, start: int, stop: int) -> list[bytes]:
         """The rows from one place to another, and of those that aren't public only these two."""
         public = self.variant.public
         between = public[bisect(public, start) : bisect_left(public, stop)]
@@ -164,9 +165,9 @@ class LinkedTrain(NamedTuple):
         return [days_later(self.variant.rows[at], self.days) for at in places]
 
 
-def held_by(composition: Composition) -> Dict[Node, List[Held]]:
+def held_by(composition: Composition) -> dict[Node, list[Held]]:
     """The associations of each train."""
-    found: Dict[Node, List[Held]] = {node: [] for node in composition.variants}
+    found: dict[Node, list[Held]] = {node: [] for node in composition.variants}
     for edge in composition.edges:
         for role in ROLES:
             node = edge.node(role)
@@ -179,7 +180,7 @@ def is_cut(held: Held) -> bool:
     return held.role is Role.BASE and held.edge.association.terms.category in (DIVIDE, JOIN)
 
 
-def parts_of(variant: Variant, all_held: Sequence[Held], days: int) -> List[Part]:
+def parts_of(variant: Variant, all_held: Sequence[Held], days: int) -> list[Part]:
     """The parts of a train that counts so many days earlier. It is cut where it divides or is
     joined: one part only arrives there, and the next only leaves. A stop that isn't public is among
     the calls only if it is the place of one of the associations."""
@@ -224,7 +225,7 @@ def mark_of(composition: Composition, trains: Mapping[Node, LinkedTrain]) -> byt
     return blake2b(b"\n\n".join(sorted(texts))).digest()
 
 
-Link = Tuple[Trip, Trip]
+Link = tuple[Trip, Trip]
 
 
 class Assembly:
@@ -232,8 +233,8 @@ class Assembly:
 
     def __init__(self, whole_trains: bool) -> None:
         self.whole_trains = whole_trains
-        self.of_uid: Dict[str, TripsOfUid] = {}
-        self.links: Dict[Tuple[bytes, bytes], Link] = {}
+        self.of_uid: dict[str, TripsOfUid] = {}
+        self.links: dict[tuple[bytes, bytes], Link] = {}
 
     def trips(self, uid: str) -> TripsOfUid:
         if uid not in self.of_uid:
@@ -243,7 +244,7 @@ class Assembly:
     def add(self, composition: Composition) -> None:
         """Adds the trips of a composition, which all have its dates, and the links between them."""
         first = min(node.offset for node in composition.variants)
-        trains: Dict[Node, LinkedTrain] = {}
+        trains: dict[Node, LinkedTrain] = {}
         for node, all_held in held_by(composition).items():
             variant = composition.variants[node]
             days = node.offset - first
@@ -261,8 +262,8 @@ class Assembly:
         self,
         node: Node,
         train: LinkedTrain,
-        rows: List[bytes],
-        ends: Optional[Ends],
+        rows: list[bytes],
+        ends: Ends | None,
         mark: bytes,
         dates: Dates,
     ) -> Trip:
@@ -275,10 +276,10 @@ class Assembly:
 
     def add_parts(self, trains: Mapping[Node, LinkedTrain], mark: bytes, dates: Dates) -> None:
         """Adds the trips of the parts of trains, and the links between them."""
-        ends: Dict[Edge, Trip] = {}
-        begins: Dict[Edge, Trip] = {}
+        ends: dict[Edge, Trip] = {}
+        begins: dict[Edge, Trip] = {}
         for node, train in trains.items():
-            trips: List[Trip] = []
+            trips: list[Trip] = []
             for number, part in enumerate(train.parts):
                 own_mark = b"%d\n%s" % (number, mark)
                 trip = self.add_trip(node, train, part.rows, train.variant.ends, own_mark, dates)
@@ -309,14 +310,14 @@ class WholeTrains:
     def __init__(self, composition: Composition, trains: Mapping[Node, LinkedTrain]) -> None:
         self.trains = trains
         # where each train leaves another, and where it joins one: the first of several
-        self.leaves: Dict[Node, Joint] = {}
-        self.joins: Dict[Node, Joint] = {}
+        self.leaves: dict[Node, Joint] = {}
+        self.joins: dict[Node, Joint] = {}
         for edge in sorted(composition.edges, key=lambda edge: edge.association.terms):
             is_join = edge.association.terms.category == JOIN
             found = self.joins if is_join else self.leaves
             found.setdefault(edge.node(Role.ASSOCIATED), Joint(edge, edge.node(Role.BASE)))
         # the calls of the other train that are shared so
-        self.shared: Dict[Joint, List[bytes]] = {}
+        self.shared: dict[Joint, list[bytes]] = {}
 
     def place(self, edge: Edge, role: Role) -> int:
         variant = self.trains[edge.node(role)].variant
@@ -333,7 +334,7 @@ class WholeTrains:
             return self.place(self.joins[node].edge, Role.ASSOCIATED)
         return self.trains[node].variant.last
 
-    def shared_at(self, joint: Joint) -> List[bytes]:
+    def shared_at(self, joint: Joint) -> list[bytes]:
         """The calls of the other train up to where it is left, or from where it is joined on."""
         edge, base = joint
         place = self.place(edge, Role.BASE)
@@ -341,7 +342,7 @@ class WholeTrains:
         ends = (place, self.stop(base)) if is_join else (self.start(base), place)
         return self.trains[base].section(*ends)
 
-    def others(self, node: Node, joints: Mapping[Node, Joint]) -> Iterator[List[bytes]]:
+    def others(self, node: Node, joints: Mapping[Node, Joint]) -> Iterator[list[bytes]]:
         """The calls of the train that a train leaves or joins, of the one that this does, and so on,
         each train once."""
         seen = {node}
@@ -353,17 +354,17 @@ class WholeTrains:
             seen.add(joint.base)
             joint = joints.get(joint.base)
 
-    def rows(self, node: Node) -> List[bytes]:
+    def rows(self, node: Node) -> list[bytes]:
         """All calls of a train."""
         before = list(self.others(node, self.leaves))
         own = self.trains[node].section(self.start(node), self.stop(node))
-        rows: List[bytes] = []
+        rows: list[bytes] = []
         for section in (*reversed(before), own, *self.others(node, self.joins)):
             add_section(rows, section)
         return rows
 
 
-def add_section(rows: List[bytes], section: Sequence[bytes]) -> None:
+def add_section(rows: list[bytes], section: Sequence[bytes]) -> None:
     """Adds the calls of the next train, of which the first is at the place of the last so far. If
     nobody gets on or off there, the train doesn't call there."""
     if not rows:

@@ -3,7 +3,7 @@ from __future__ import annotations
 
 import csv
 from pathlib import Path
-from typing import List, NamedTuple, Optional
+from typing import NamedTuple
 
 from ..user_csv import Lines, Unreadable
 from ..errors import Misused
@@ -22,14 +22,14 @@ class Wanted(NamedTuple):
     """What of a feed has no coordinates: how many stations, and a row for each of their TIPLOCs."""
 
     stations: int
-    rows: List[Row]
+    rows: list[Row]
 
 
 def wanted_of(stops: Stops) -> Wanted:
     """A TIPLOC without a CRS code counts as a station."""
     places = stops.without_coordinates()
     names = stops.places.station_name
-    rows: List[Row] = [(place.name, names(place.name), "", "") for place in places]
+    rows: list[Row] = [(place.name, names(place.name), "", "") for place in places]
     return Wanted(len({stops.end_of(place.name) for place in places}), rows)
 
 
@@ -63,7 +63,7 @@ class ListPlace(NamedTuple):
             raise Misused(f"{self.name} isn't a list of places, so it isn't replaced") from None
 
 
-def write_wanted(wanted: Wanted, place: Optional[ListPlace], files: NewFiles) -> None:
+def write_wanted(wanted: Wanted, place: ListPlace | None, files: NewFiles) -> None:
     """Writes the list, if it is asked for, unless it has been filled in meanwhile."""
     if place:
         place.check()

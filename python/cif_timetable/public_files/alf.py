@@ -3,7 +3,6 @@ are mode, from, to and minutes."""
 from __future__ import annotations
 
 import re
-from typing import Dict, List, Tuple
 
 from ..errors import Refused
 
@@ -18,10 +17,10 @@ FORMS = (
 )
 
 
-def links(path: str) -> List[Row]:
+def links(path: str) -> list[Row]:
     """The links, each in both directions, unless the file has both. GTFS can't say when a link is
     there: of several from one station to another the slowest counts."""
-    found: Dict[Tuple[str, str], int] = {}
+    found: dict[tuple[str, str], int] = {}
     for number, line in lines_of(path):
         if not line.strip() or line.startswith(COMMENT):
             continue

@@ -3,7 +3,7 @@ from __future__ import annotations
 
 import csv
 import io
-from typing import Callable, Dict, List, Optional, Sequence
+from collections.abc import Callable, Sequence
 
 from .._arguments import add_help, new_parser
 from ..errors import SUCCESS
@@ -22,7 +22,7 @@ layouts of the public files are from memory.
   msn-interchange  interchange.csv of the same
   alf-links        links.csv of RSP's additional fixed links
 """
-KINDS: Dict[str, Callable[[str], List[Row]]] = {
+KINDS: dict[str, Callable[[str], list[Row]]] = {
     "naptan-places": naptan.places,
     "msn-places": msn.places,
     "msn-interchange": msn.interchange,
@@ -30,7 +30,7 @@ KINDS: Dict[str, Callable[[str], List[Row]]] = {
 }
 
 
-def write(rows: List[Row]) -> int:
+def write(rows: list[Row]) -> int:
     with standard_output() as output, io.TextIOWrapper(
         output, encoding="utf-8", newline=""
     ) as text:
@@ -38,7 +38,7 @@ def write(rows: List[Row]) -> int:
     return SUCCESS
 
 
-def main(words: Optional[Sequence[str]] = None) -> int:
+def main(words: Sequence[str] | None = None) -> int:
     parser = new_parser(PROGRAM, ABOUT)
     add_help(parser)
     parser.add_argument("kind", metavar="KIND", choices=KINDS, help="one of those above")

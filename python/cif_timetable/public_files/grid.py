@@ -7,7 +7,7 @@ is good to some 5 m.
 from __future__ import annotations
 
 from math import atan2, cos, degrees, hypot, radians, sin, sqrt, tan
-from typing import NamedTuple, Tuple
+from typing import NamedTuple
 
 
 class Ellipsoid(NamedTuple):
@@ -90,7 +90,7 @@ def on_airy(easting: float, northing: float) -> Point:
     return Point(latitude - seven * east**2 + eight * east**4 - nine * east**6, longitude)
 
 
-def cartesian(point: Point) -> Tuple[float, float, float]:
+def cartesian(point: Point) -> tuple[float, float, float]:
     """A point on Airy's ellipsoid in metres from its middle."""
     nu = AIRY_1830.across(point.latitude)
     flat = nu * cos(point.latitude)
@@ -114,7 +114,7 @@ def to_wgs_84(point: Point) -> Point:
     return Point(latitude, atan2(moved_y, moved_x))
 
 
-def latitude_and_longitude(easting: float, northing: float) -> Tuple[float, float]:
+def latitude_and_longitude(easting: float, northing: float) -> tuple[float, float]:
     """In degrees, of metres on the grid."""
     point = to_wgs_84(on_airy(easting, northing))
     return degrees(point.latitude), degrees(point.longitude)

@@ -2,7 +2,8 @@
 from __future__ import annotations
 
 import re
-from typing import Dict, Iterator, List, NamedTuple, Tuple
+from collections.abc import Iterator
+from typing import NamedTuple
 
 from ..errors import Refused
 from ..places import in_small_letters
@@ -54,7 +55,7 @@ def metres(path: str, line: int, field: str, value: str, first: str) -> int:
     return int(value[1:]) * 100
 
 
-def coordinates(path: str, station: Station) -> Tuple[str, str]:
+def coordinates(path: str, station: Station) -> tuple[str, str]:
     """Latitude and longitude, or nothing where the grid is unknown."""
     if station.easting in UNKNOWN and station.northing in UNKNOWN:
         return "", ""
@@ -64,9 +65,9 @@ def coordinates(path: str, station: Station) -> Tuple[str, str]:
     return f"{latitude:.4f}", f"{longitude:.4f}"
 
 
-def places(path: str) -> List[Row]:
+def places(path: str) -> list[Row]:
     """The places of the TIPLOCs."""
-    found: Dict[str, Row] = {}
+    found: dict[str, Row] = {}
     for station in stations(path):
         if not station.tiploc:
             raise refusal(path, station.line, "the TIPLOC is missing")
@@ -76,9 +77,9 @@ def places(path: str) -> List[Row]:
     return [PLACES, *(found[tiploc] for tiploc in sorted(found))]
 
 
-def interchange(path: str) -> List[Row]:
+def interchange(path: str) -> list[Row]:
     """The minimum times of change of stations; where two records of one differ, the longer one."""
-    found: Dict[str, int] = {}
+    found: dict[str, int] = {}
     for station in stations(path):
         if not CRS.fullmatch(station.crs):
             mistake = f"CRS code `{station.crs}` isn't three letters or digits"

@@ -4,7 +4,8 @@ from __future__ import annotations
 
 import csv
 import re
-from typing import Dict, Iterator, List, NamedTuple, Tuple
+from collections.abc import Iterator
+from typing import NamedTuple
 
 from ..user_csv import Lines, Mistake, Unreadable, degrees
 from ..places import PlaceRow, mistakes_of_place
@@ -35,7 +36,7 @@ class Station(NamedTuple):
     grid: str
 
 
-def rows_of(path: str) -> Iterator[Tuple[int, List[str]]]:
+def rows_of(path: str) -> Iterator[tuple[int, list[str]]]:
     """The rows, each with the number of its first line."""
     first_line = 1
     with open(path, "rb") as file:
@@ -50,15 +51,15 @@ def rows_of(path: str) -> Iterator[Tuple[int, List[str]]]:
             raise refusal(path, first_line, f"this is no CSV: {problem}") from None
 
 
-def places(path: str) -> List[Row]:
+def places(path: str) -> list[Row]:
     """The places of the railway stations."""
     rows = rows_of(path)
-    names: List[str] = next((cells for _, cells in rows), [])
+    names: list[str] = next((cells for _, cells in rows), [])
     for name in NEEDED:
         if names.count(name) != 1:
             raise refusal(path, 1, f"the field {name} is missing or a duplicate")
     code_at = names.index(NEEDED[0])
-    found: Dict[str, Row] = {}
+    found: dict[str, Row] = {}
     for line, cells in rows:
         if len(cells) <= code_at or not cells[code_at].startswith(RAILWAY):
             continue
@@ -83,7 +84,7 @@ def place_of(path: str, line: int, station: Station) -> Row:
     return (tiploc, name, *coordinates_of(path, line, station))
 
 
-def coordinates_of(path: str, line: int, station: Station) -> Tuple[str, str]:
+def coordinates_of(path: str, line: int, station: Station) -> tuple[str, str]:
     """Latitude and longitude, as they stand or of the grid, or nothing. Two zeros are nothing."""
     angles = []
     for name, value, most in (
@@ -104,7 +105,7 @@ def coordinates_of(path: str, line: int, station: Station) -> Tuple[str, str]:
     return station.latitude, station.longitude
 
 
-def coordinates_on_grid(path: str, line: int, station: Station) -> Tuple[str, str]:
+def coordinates_on_grid(path: str, line: int, station: Station) -> tuple[str, str]:
     """Latitude and longitude of easting and northing, or nothing, likewise."""
     if not station.easting or not station.northing or station.grid.startswith(OTHER_GRID):
         return "", ""

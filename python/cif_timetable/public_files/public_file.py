@@ -1,14 +1,15 @@
 """A public file, line by line."""
 from __future__ import annotations
 
-from typing import Iterator, NamedTuple, Sequence, Union
+from collections.abc import Iterator, Sequence
+from typing import NamedTuple
 
 from ..user_csv import Lines, Mistake, Unreadable, plain_text, shown
 from ..errors import Refused
 
 MOST_BYTES = 1 << 30
 
-Row = Sequence[Union[str, int]]
+Row = Sequence[str | int]
 PLACES: Row = ("tiploc", "name", "latitude", "longitude")
 
 

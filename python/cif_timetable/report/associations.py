@@ -1,7 +1,8 @@
 """Which associations differ, and on which dates."""
 from __future__ import annotations
 
-from typing import Dict, Iterator, List, Mapping, NamedTuple, Sequence, Tuple
+from collections.abc import Iterator, Mapping, Sequence
+from typing import NamedTuple
 
 from ..days import Dates, Window
 from ..model import Association
@@ -18,7 +19,7 @@ BODY_FIELDS = {
 NOWHERE = Place(0, 0)
 
 # The values of these fields.
-Body = Tuple[str, ...]
+Body = tuple[str, ...]
 
 
 class AssociationChange(NamedTuple):
@@ -48,9 +49,9 @@ def association_changes(
     old: Sequence[Association],
     new: Sequence[Association],
     window: Window,
-) -> List[AssociationChange]:
+) -> list[AssociationChange]:
     """The changes key by key."""
-    found: Dict[AssociationKey, Sides[Body]] = {key: Sides() for key in differing}
+    found: dict[AssociationKey, Sides[Body]] = {key: Sides() for key in differing}
     for side, associations in (OLD, old), (NEW, new):
         for association in associations:
             key = key_of(association)
@@ -65,7 +66,7 @@ def association_changes(
 
 def changes_of(key: AssociationKey, sides: Sides[Body]) -> Iterator[AssociationChange]:
     """Dates with the same difference are one change."""
-    dates: Dict[Tuple[str, str, str], Dates] = {}
+    dates: dict[tuple[str, str, str], Dates] = {}
     for part in sides.parts():
         terms = terms_of(part)
         dates[terms] = dates.get(terms, 0) | part.dates
@@ -75,7 +76,7 @@ def changes_of(key: AssociationKey, sides: Sides[Body]) -> Iterator[AssociationC
         yield AssociationChange(base, associated, place, category, kind, text, of_change)
 
 
-def terms_of(part: Part[Body]) -> Tuple[str, str, str]:
+def terms_of(part: Part[Body]) -> tuple[str, str, str]:
     """The category, the kind of change, and its words."""
     [category, *_] = (part.new or part.old)[0].body
     if not part.old:

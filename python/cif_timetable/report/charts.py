@@ -2,9 +2,10 @@
 stay legible on a narrow screen."""
 from __future__ import annotations
 
+from collections.abc import Iterable, Iterator, Sequence
 from datetime import date
 from itertools import groupby
-from typing import Iterable, Iterator, List, NamedTuple, Sequence, Tuple
+from typing import NamedTuple
 
 from .days import MONTH_NAMES, Calendar
 from .report import number_word, signed
@@ -29,14 +30,14 @@ class Series(NamedTuple):
     after: Sequence[int]
 
     @property
-    def differences(self) -> List[int]:
+    def differences(self) -> list[int]:
         return [after - before for before, after in zip(self.before, self.after)]
 
 
 # ---- paths
 
 
-def runs(values: Iterable[int]) -> Iterator[Tuple[int, int, int]]:
+def runs(values: Iterable[int]) -> Iterator[tuple[int, int, int]]:
     """Equal values one after another: the first number, the one behind the last, and the value."""
     at = 0
     for value, group in groupby(values):
@@ -105,7 +106,7 @@ def grid(most: int, small: bool) -> Markup:
     return Markup("".join(found))
 
 
-def tick_days(days: Sequence[date]) -> List[Tuple[int, str]]:
+def tick_days(days: Sequence[date]) -> list[tuple[int, str]]:
     """Where the axis has ticks, with their texts: at Mondays, months or years."""
     mondays = [
         (number, f"{day.day} {MONTH_NAMES[day.month - 1][:3]}")
@@ -143,11 +144,11 @@ def axis(days: Sequence[date], near_edge: float) -> Markup:
     return Markup("".join(parts))
 
 
-def extremes(series: Series, calendar: Calendar) -> List[Tuple[int, str]]:
+def extremes(series: Series, calendar: Calendar) -> list[tuple[int, str]]:
     """The first date with the most trains more, and the first with the most fewer, each with its
     label."""
     most, least = max(series.differences), min(series.differences)
-    found: List[Tuple[int, str]] = []
+    found: list[tuple[int, str]] = []
     for difference in (most if most > 0 else 0, least if least < 0 else 0):
         if difference:
             number = series.differences.index(difference)

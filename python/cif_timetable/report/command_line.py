@@ -3,8 +3,8 @@ from __future__ import annotations
 
 import argparse
 import io
+from collections.abc import Sequence
 from pathlib import Path
-from typing import Optional, Sequence
 
 from .._arguments import add_cif, add_help, add_names, add_reading, new_parser
 from .._arguments import preparing_of, request_of
@@ -59,7 +59,7 @@ def title(text: str) -> str:
     return text
 
 
-def arguments_of(words: Optional[Sequence[str]]) -> argparse.Namespace:
+def arguments_of(words: Sequence[str] | None) -> argparse.Namespace:
     parser = new_parser(PROGRAM, ABOUT, STATUSES)
     add = parser.add_argument
     add_reading(parser)
@@ -146,7 +146,7 @@ def write_report(asked: argparse.Namespace, progress: Progress) -> int:
     return SUCCESS
 
 
-def main(words: Optional[Sequence[str]] = None) -> int:
+def main(words: Sequence[str] | None = None) -> int:
     asked = arguments_of(words)
     leave_cycles()
     return run(PROGRAM, lambda progress: write_report(asked, progress))

@@ -2,8 +2,9 @@
 from __future__ import annotations
 
 from collections import deque
+from collections.abc import Iterator, Mapping, Sequence
 from itertools import chain
-from typing import Deque, Dict, Iterator, List, Mapping, NamedTuple, Sequence, Tuple
+from typing import NamedTuple
 
 from ..days import Dates, Window, count_of
 from .._progress import Progress
@@ -34,10 +35,10 @@ class Change(NamedTuple):
     """What is different on some dates, and where the bodies of either extract stand that run on
     them."""
 
-    phrases: Tuple[Phrase, ...]
+    phrases: tuple[Phrase, ...]
     dates: Dates
-    old: Tuple[Place, ...]
-    new: Tuple[Place, ...]
+    old: tuple[Place, ...]
+    new: tuple[Place, ...]
 
 
 class Train(NamedTuple):
@@ -45,7 +46,7 @@ class Train(NamedTuple):
 
     uid: str
     face: Face
-    changes: Tuple[Change, ...]
+    changes: tuple[Change, ...]
 
     @property
     def dates(self) -> Dates:
@@ -54,9 +55,9 @@ class Train(NamedTuple):
             dates |= change.dates
         return dates
 
-    def kinds(self) -> Dict[str, Dates]:
+    def kinds(self) -> dict[str, Dates]:
         """The kinds of its changes, each with its dates."""
-        found: Dict[str, Dates] = {}
+        found: dict[str, Dates] = {}
         for change in self.changes:
             for phrase in change.phrases:
                 found[phrase.kind] = found.get(phrase.kind, 0) | change.dates
@@ -85,7 +86,7 @@ class Alone(NamedTuple):
 
 
 # Bodies by their journeys: those of one journey differ in other data.
-Journeys = Dict[bytes, List[Alone]]
+Journeys = dict[bytes, list[Alone]]
 
 
 class Altered:
@@ -95,8 +96,8 @@ class Altered:
 
     def __init__(self) -> None:
         self.dates: Dates = 0
-        self.old: List[Place] = []
-        self.new: List[Place] = []
+        self.old: list[Place] = []
+        self.new: list[Place] = []
 
 
 class Draft:
@@ -106,11 +107,11 @@ class Draft:
 
     def __init__(self, face: Face) -> None:
         self.face = face
-        self.altered: Dict[Tuple[Phrase, ...], Altered] = {}
+        self.altered: dict[tuple[Phrase, ...], Altered] = {}
         self.lost: Journeys = {}
         self.added: Journeys = {}
 
-    def alter(self, phrases: Tuple[Phrase, ...], dates: Dates, old: Place, new: Place) -> None:
+    def alter(self, phrases: tuple[Phrase, ...], dates: Dates, old: Place, new: Place) -> None:
         """Adds a change. Dates with the same difference are one."""
         altered = self.altered.setdefault(phrases, Altered())
         altered.dates |= dates
@@ -132,14 +133,14 @@ class Reading:
 
     def __init__(self, names: Names) -> None:
         self.names = names
-        self.drafts: Dict[bytes, Draft] = {}
+        self.drafts: dict[bytes, Draft] = {}
         # equal faces and equal phrases are kept once
-        self.faces: Dict[Face, Face] = {}
-        self.phrases: Dict[Tuple[Phrase, ...], Tuple[Phrase, ...]] = {}
+        self.faces: dict[Face, Face] = {}
+        self.phrases: dict[tuple[Phrase, ...], tuple[Phrase, ...]] = {}
 
     def add(self, uid: bytes, sides: Sides[bytes]) -> None:
         parts = sides.parts()
-        bodies: Dict[Place, Body] = {}
+        bodies: dict[Place, Body] = {}
 
         def read(said: Said[bytes]) -> Body:
             if said.place not in bodies:
@@ -167,7 +168,7 @@ class Reading:
     def match(self, texts: Bodies) -> None:
         """What one train has lost and another got, with the same journey and dates, is one train
         under another UID, whatever other data differ on which of the dates."""
-        added: Dict[Tuple[bytes, Dates], Deque[bytes]] = {}
+        added: dict[tuple[bytes, Dates], deque[bytes]] = {}
         for uid, draft in self.drafts.items():
             for journey, bodies in draft.added.items():
                 added.setdefault((journey, all_dates(bodies)), deque()).append(uid)
@@ -181,7 +182,7 @@ class Reading:
                     self.renumber(draft, own, lost, got, texts)
 
     def renumber(
-        self, draft: Draft, own: str, lost: List[Alone], got: List[Alone], bodies: Bodies
+        self, draft: Draft, own: str, lost: list[Alone], got: list[Alone], bodies: Bodies
     ) -> None:
         """Adds what is different under the other UID, by the bodies of each date."""
         after = ByDates(got)
@@ -192,7 +193,7 @@ class Reading:
                 phrases = (Phrase(NUMBERS, "renumbered", own), *more)
                 draft.alter(phrases, was.dates & now.dates, was.place, now.place)
 
-    def trains(self, old: Schedules, new: Schedules) -> List[Train]:
+    def trains(self, old: Schedules, new: Schedules) -> list[Train]:
         return [
             Train(uid.decode(), draft.face, tuple(changes_of(uid, draft, old, new)))
             for uid, draft in self.drafts.items()
@@ -228,12 +229,12 @@ def all_dates(parts: Sequence[Alone]) -> Dates:
 # ---- both extracts
 
 # Schedules, each with the text of its body.
-Bodied = Iterator[Tuple[OwnSchedule, bytes]]
+Bodied = Iterator[tuple[OwnSchedule, bytes]]
 
 
 def read_trains(
     trains: Mapping[bytes, OwnDates], sides: Mapping[bytes, Bodied], bodies: Bodies
-) -> Iterator[Tuple[bytes, Sides[bytes]]]:
+) -> Iterator[tuple[bytes, Sides[bytes]]]:
     """The trains that differ, each with the bodies on these dates. Either extract has them in the
     order of `trains`."""
     awaited = {side: next(found, None) for side, found in sides.items()}
@@ -255,7 +256,7 @@ def compare(pair: Pair, names: Names, bodies: Bodies, progress: Progress) -> Com
     progress.show("comparing")
     with pair.difference() as table:
         found.read(table, pair.window)
-    associations: List[AssociationChange] = []
+    associations: list[AssociationChange] = []
     if found.associations:
         before, after = (
             side.extract.rows("associations", Association) for side in (pair.old, pair.new)
@@ -286,13 +287,13 @@ class Numbers(NamedTuple):
     """How many trains have changes: of each kind, and on each date; and of the trains that run on
     dates when they didn't, or no longer, how many are new or gone."""
 
-    of_kind: Dict[str, int]
-    of_date: List[int]
+    of_kind: dict[str, int]
+    of_date: list[int]
     new: int
     gone: int
 
 
-def counted_kinds(train: Train) -> List[str]:
+def counted_kinds(train: Train) -> list[str]:
     """The kinds under which a train is counted: other data only if there is nothing else."""
     kinds = list(train.kinds())
     return [kind for kind in kinds if kind != DATA or len(kinds) == 1]

@@ -1,8 +1,8 @@
 """The parts of the page that go by date: trains a day, and a calendar of the changes."""
 from __future__ import annotations
 
+from collections.abc import Iterator, Sequence
 from datetime import date, timedelta
-from typing import Dict, Iterator, List, Sequence, Tuple
 
 from .charts import Series, chart
 from .days import MONTH_NAMES
@@ -21,7 +21,7 @@ NO_CELL = Markup("<td></td>")
 # ---- trains a day
 
 
-def series_of(report: Report) -> Dict[str, Series]:
+def series_of(report: Report) -> dict[str, Series]:
     """Those of each operator that has trains."""
     none = [0] * len(report.comparison.window.days)
     old, new = report.comparison.old.trains_per_day, report.comparison.new.trains_per_day
@@ -45,9 +45,9 @@ def operator_charts(report: Report) -> Markup:
     all_series = series_of(report)
     if len(all_series) < 2:
         return Markup()
-    shown: List[Markup] = []
-    same: List[str] = []
-    left_out: List[str] = []
+    shown: list[Markup] = []
+    same: list[str] = []
+    left_out: list[str] = []
     size = 0
     amounts = {code: amount_of(series) for code, series in all_series.items()}
     for code in sorted(all_series, key=lambda code: -amounts[code]):
@@ -110,7 +110,7 @@ def level_of(count: int, most: int) -> int:
     return -(-count * LEVELS // most)
 
 
-def months_of(days: Sequence[date]) -> Iterator[Tuple[int, int]]:
+def months_of(days: Sequence[date]) -> Iterator[tuple[int, int]]:
     yield from dict.fromkeys((day.year, day.month) for day in days)
 
 

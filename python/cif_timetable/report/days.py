@@ -2,8 +2,9 @@
 from __future__ import annotations
 
 import re
+from collections.abc import Iterator, Sequence
 from datetime import date, timedelta
-from typing import Iterator, List, NamedTuple, Optional, Sequence
+from typing import NamedTuple
 
 from ..days import Dates, Window, between, count_of, numbers_of
 
@@ -75,7 +76,7 @@ class Calendar:
     def listed_days(self, days: Sequence[date], weekdays: bool) -> str:
         """Such as `Sat 6, Sun 7 and Sat 13 June`: the month stands behind its last date."""
         words = []
-        following_days: List[Optional[date]] = [*days[1:], None]
+        following_days: list[date | None] = [*days[1:], None]
         for day, following in zip(days, following_days):
             month = following is None or (day.year, day.month) != (following.year, following.month)
             word = f"{short_weekday(day)} " if weekdays else ""
@@ -125,7 +126,7 @@ class Calendar:
             return f" until {self.day_month(last)}"
         return f" from {self.period(first, last)}"
 
-    def spans(self, dates: Dates) -> List[Span]:
+    def spans(self, dates: Dates) -> list[Span]:
         """The dates as weeks that follow one another with the same days."""
         return list(self.joined(dates))
 
@@ -156,7 +157,7 @@ class DateCounts:
     """How many sets have each date: the numbers in binary, a set of dates for each digit."""
 
     def __init__(self) -> None:
-        self.digits: List[Dates] = []
+        self.digits: list[Dates] = []
 
     def add(self, dates: Dates) -> None:
         for at, digit in enumerate(self.digits):
@@ -167,7 +168,7 @@ class DateCounts:
         if dates:
             self.digits.append(dates)
 
-    def counts(self, length: int) -> List[int]:
+    def counts(self, length: int) -> list[int]:
         found = [0] * length
         for at, digit in enumerate(self.digits):
             for number, sign in enumerate(signs_of(digit)):

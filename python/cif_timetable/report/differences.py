@@ -3,20 +3,9 @@ each date."""
 from __future__ import annotations
 
 import os
+from collections.abc import Hashable, Iterator, Sequence
 from hashlib import blake2b
-from typing import (
-    IO,
-    Dict,
-    Generic,
-    Hashable,
-    Iterator,
-    List,
-    NamedTuple,
-    Protocol,
-    Sequence,
-    Tuple,
-)
-from typing import TypeVar
+from typing import IO, Generic, NamedTuple, Protocol, TypeVar
 
 from .._tables import Table
 from ..days import Dates, Window
@@ -35,7 +24,7 @@ FIELDS += "first_date last_date days_run".split()
 NO_PAIR = b"\n"
 
 # What tells an association from others: both UIDs, the location, and both suffixes.
-AssociationKey = Tuple[bytes, ...]
+AssociationKey = tuple[bytes, ...]
 
 
 class OwnDates:
@@ -58,9 +47,9 @@ class Differences:
     """Which trains and associations differ, each with its dates, and which places."""
 
     def __init__(self) -> None:
-        self.trains: Dict[bytes, OwnDates] = {}
-        self.associations: Dict[AssociationKey, OwnDates] = {}
-        self.tiplocs: List[bytes] = []
+        self.trains: dict[bytes, OwnDates] = {}
+        self.associations: dict[AssociationKey, OwnDates] = {}
+        self.tiplocs: list[bytes] = []
 
     def read(self, table: Table, window: Window) -> None:
         """Reads what `cif diff` writes. The rows of one pair of records follow one another."""
@@ -124,8 +113,8 @@ class Said(NamedTuple, Generic[Body]):
 class Part(NamedTuple, Generic[Body]):
     """The bodies that each of the extracts alone says on these dates, or none."""
 
-    old: Tuple[Said[Body], ...]
-    new: Tuple[Said[Body], ...]
+    old: tuple[Said[Body], ...]
+    new: tuple[Said[Body], ...]
     dates: Dates
 
 
@@ -165,7 +154,7 @@ class Sides(Generic[Body]):
     """What each of the extracts alone says of a train or an association."""
 
     def __init__(self) -> None:
-        self.said: Dict[bytes, Dict[Body, Said[Body]]] = {OLD: {}, NEW: {}}
+        self.said: dict[bytes, dict[Body, Said[Body]]] = {OLD: {}, NEW: {}}
 
     def add(self, side: bytes, body: Body, place: Place, dates: Dates) -> None:
         known = self.said[side].get(body)
@@ -177,7 +166,7 @@ class Sides(Generic[Body]):
         """The bodies of a side, by the first of their dates."""
         return ByDates(sorted(self.said[side].values(), key=lambda said: said.dates & -said.dates))
 
-    def parts(self) -> List[Part[Body]]:
+    def parts(self) -> list[Part[Body]]:
         """Each date is in one part: the one with the bodies that run on it."""
         old, new = self.by_first_date(OLD), self.by_first_date(NEW)
         found = [Part((was,), (), was.dates & ~new.dates) for was in old.items]

@@ -1,7 +1,8 @@
 """Trains with the same changes on the same dates, which stand together."""
 from __future__ import annotations
 
-from typing import Dict, Iterator, List, NamedTuple, Sequence, Tuple
+from collections.abc import Iterator, Sequence
+from typing import NamedTuple
 
 from ..days import Dates, count_of
 
@@ -19,7 +20,7 @@ class Group(NamedTuple):
     others: int
 
 
-def likeness(train: Train) -> Tuple[object, ...]:
+def likeness(train: Train) -> tuple[object, ...]:
     """What is the same of all trains of a group."""
     return tuple(
         (change.dates, *((phrase.kind, phrase.text) for phrase in change.phrases))
@@ -27,9 +28,9 @@ def likeness(train: Train) -> Tuple[object, ...]:
     )
 
 
-def all_groups(trains: Sequence[Train]) -> List[List[Train]]:
+def all_groups(trains: Sequence[Train]) -> list[list[Train]]:
     """Those with the most dates first, then those with the most trains."""
-    found: Dict[Tuple[object, ...], List[Train]] = {}
+    found: dict[tuple[object, ...], list[Train]] = {}
     for train in trains:
         found.setdefault(likeness(train), []).append(train)
     return sorted(found.values(), key=lambda group: (-count_of(group[0].dates), -len(group)))

@@ -3,10 +3,10 @@ together."""
 from __future__ import annotations
 
 from collections import Counter
+from collections.abc import Iterable, Iterator, Sequence
 from functools import lru_cache
 from itertools import takewhile
-from typing import Counter as CounterOf
-from typing import Dict, Iterable, Iterator, List, NamedTuple, Optional, Sequence, Tuple
+from typing import NamedTuple
 
 from .._extract import Extract
 from .._schedules import calls_by_schedule, numbered
@@ -50,7 +50,7 @@ class Call(NamedTuple):
         return bool(self.passing.strip())
 
     @property
-    def times(self) -> Tuple[Optional[int], ...]:
+    def times(self) -> tuple[int | None, ...]:
         """The arrival, the pass and the departure in half minutes, as far as it has them."""
         return tuple(map(half_minutes, (self.arrival, self.passing, self.departure)))
 
@@ -60,7 +60,7 @@ TABLE_FIELDS = tuple({"kind": "record", "passing": "pass"}.get(name, name) for n
 
 
 @lru_cache(maxsize=None)
-def half_minutes(time: bytes) -> Optional[int]:
+def half_minutes(time: bytes) -> int | None:
     """A working time as half minutes of the day by the clock."""
     if not time.strip():
         return None
@@ -71,10 +71,10 @@ class Body(NamedTuple):
     """What runs: the fields of BS and BX, the calls, and the changes en route, each with the number
     of calls before it."""
 
-    basic: Tuple[bytes, ...]
-    extra: Optional[Tuple[bytes, ...]]
-    calls: List[Call]
-    changes: List[Tuple[int, bytes]]
+    basic: tuple[bytes, ...]
+    extra: tuple[bytes, ...] | None
+    calls: list[Call]
+    changes: list[tuple[int, bytes]]
 
     @property
     def identity(self) -> str:
@@ -104,7 +104,7 @@ def body_of(text: bytes) -> Body:
     )
 
 
-def parted(row: bytes) -> Tuple[bytes, bytes, bytes]:
+def parted(row: bytes) -> tuple[bytes, bytes, bytes]:
     return row.partition(b"\t")
 
 
@@ -120,7 +120,7 @@ class OwnSchedule(NamedTuple):
 
 def bodies_of(
     extract: Extract, schedules: Sequence[OwnSchedule]
-) -> Iterator[Tuple[OwnSchedule, bytes]]:
+) -> Iterator[tuple[OwnSchedule, bytes]]:
     """Some schedules of an extract, in its order, each with the text of its body."""
     if not schedules:
         return
@@ -144,13 +144,13 @@ def bodies_of(
 
 # ---- two journeys
 
-Row = Tuple[Optional[Call], Optional[Call]]
-Pair = Tuple[Call, Call]
+Row = tuple[Call | None, Call | None]
+Pair = tuple[Call, Call]
 
 
-def visits(calls: Sequence[Call]) -> Iterator[Tuple[bytes, int]]:
+def visits(calls: Sequence[Call]) -> Iterator[tuple[bytes, int]]:
     """Each call by its place, and by how often the train has been there before."""
-    seen: CounterOf[bytes] = Counter()
+    seen: Counter[bytes] = Counter()
     for call in calls:
         yield call.location, seen[call.location]
         seen[call.location] += 1
@@ -162,7 +162,7 @@ def alike(old: Iterable[Call], new: Iterable[Call]) -> int:
     return sum(1 for _ in takewhile(lambda pair: pair[0].location == pair[1].location, pairs))
 
 
-def rows_of(old: Sequence[Call], new: Sequence[Call]) -> List[Row]:
+def rows_of(old: Sequence[Call], new: Sequence[Call]) -> list[Row]:
     """The calls of both journeys side by side, in their order. Calls belong together if they are at
     one place: from the start and from the end as long as both go the same way, and between these
     the first there with the first, the second with the second."""
@@ -176,11 +176,11 @@ def rows_of(old: Sequence[Call], new: Sequence[Call]) -> List[Row]:
     ]
 
 
-def rows_between(old: Sequence[Call], new: Sequence[Call]) -> List[Row]:
-    places: Dict[Tuple[bytes, int], int] = {key: at for at, key in enumerate(visits(old))}
-    rows: List[Row] = []
+def rows_between(old: Sequence[Call], new: Sequence[Call]) -> list[Row]:
+    places: dict[tuple[bytes, int], int] = {key: at for at, key in enumerate(visits(old))}
+    rows: list[Row] = []
     done = 0
-    added: List[Row] = []
+    added: list[Row] = []
     for key, call in zip(visits(new), new):
         at = places.get(key, -1)
         if at < done:
@@ -193,7 +193,7 @@ def rows_between(old: Sequence[Call], new: Sequence[Call]) -> List[Row]:
     return rows
 
 
-def unlike_pairs(rows: Sequence[Row]) -> List[Pair]:
+def unlike_pairs(rows: Sequence[Row]) -> list[Pair]:
     """Where both call, or both pass, and it isn't the same."""
     return [
         (old, new) for old, new in rows if old and new and old != new and old.passes == new.passes

@@ -1,7 +1,8 @@
 """Which places differ: the TI records that only one extract has."""
 from __future__ import annotations
 
-from typing import Dict, Iterable, Iterator, List, NamedTuple, Optional, Sequence, Tuple
+from collections.abc import Iterable, Iterator, Sequence
+from typing import NamedTuple
 
 from ..model import Location
 from .words import CHANGED, GONE, NEW_ONE, new_for_old
@@ -29,17 +30,17 @@ class LocationChange(NamedTuple):
 
 
 def text_in(location: Location, field: str) -> str:
-    value: Optional[str] = getattr(location, field)
+    value: str | None = getattr(location, field)
     return (value or "").strip()
 
 
 def location_changes(
     tiplocs: Iterable[bytes], old: Sequence[Location], new: Sequence[Location]
-) -> List[LocationChange]:
+) -> list[LocationChange]:
     """The changes of some TIPLOCs, of which each extract may have several records."""
     wanted = dict.fromkeys(tiploc.decode() for tiploc in tiplocs)
     before, after = set(old), set(new)
-    sides: Dict[str, Tuple[List[Location], List[Location]]] = {name: ([], []) for name in wanted}
+    sides: dict[str, tuple[list[Location], list[Location]]] = {name: ([], []) for name in wanted}
     for locations, others, side in (old, after, 0), (new, before, 1):
         for location in locations:
             if location.tiploc in sides and location not in others:
@@ -47,7 +48,7 @@ def location_changes(
     return [change for of_tiploc in sides.values() for change in changes_of(*of_tiploc)]
 
 
-def changes_of(old: List[Location], new: List[Location]) -> Iterator[LocationChange]:
+def changes_of(old: list[Location], new: list[Location]) -> Iterator[LocationChange]:
     if len(old) == len(new) == 1:
         yield change_of(new[0], CHANGED, "; ".join(differences(old[0], new[0])))
         return

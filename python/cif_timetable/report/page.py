@@ -1,8 +1,6 @@
 """The page, put together from its templates."""
 from __future__ import annotations
 
-from typing import Optional
-
 from .. import __version__  # pylint: disable=cyclic-import
 
 from .daily import calendar_section, days_section
@@ -18,7 +16,7 @@ MOST_BYTES = 5_000_000
 RESERVE = 50_000
 
 
-def page_of(report: Report, title: Optional[str], most: int) -> Markup:
+def page_of(report: Report, title: str | None, most: int) -> Markup:
     head = [] if is_same(report) else [days_section(report), calendar_section(report)]
     others = [associations_section(report), places_section(report)]
     css, script = file_text("page.css"), file_text("page.js")

@@ -1,8 +1,9 @@
 """The two extracts, and the dates that both have."""
 from __future__ import annotations
 
+from collections.abc import Iterator
 from contextlib import ExitStack, contextmanager
-from typing import Iterator, List, NamedTuple
+from typing import NamedTuple
 
 from .._process import Cif
 from ..days import Window
@@ -17,7 +18,7 @@ class Asked(NamedTuple):
 
     old: Request
     new: Request
-    window: List[str]
+    window: list[str]
 
 
 class Side(NamedTuple):
@@ -26,7 +27,7 @@ class Side(NamedTuple):
     extract: Extract
     name: str
     header: Header
-    tiplocs: List[Location]
+    tiplocs: list[Location]
 
 
 class Pair(NamedTuple):

@@ -1,7 +1,7 @@
 """What the parts of the page are made of."""
 from __future__ import annotations
 
-from typing import Dict, List, NamedTuple
+from typing import NamedTuple
 
 from .comparison import Comparison, Numbers
 from .days import Calendar
@@ -32,6 +32,6 @@ def signed(number: int) -> str:
     return f"+{number:,}" if number > 0 else f"{number:,}".replace("-", "−")
 
 
-def day_counts(trains_per_day: Dict[str, List[int]], count: int) -> List[int]:
+def day_counts(trains_per_day: dict[str, list[int]], count: int) -> list[int]:
     """The trains of all operators on each date."""
     return [sum(counts) for counts in zip([0] * count, *trains_per_day.values())]

@@ -2,7 +2,8 @@
 from __future__ import annotations
 
 import csv
-from typing import IO, Iterator, NamedTuple
+from collections.abc import Iterator
+from typing import IO, NamedTuple
 
 from .comparison import Comparison
 from .days import Calendar

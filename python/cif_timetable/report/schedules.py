@@ -1,7 +1,8 @@
 """How many trains an extract has on each date, by operator, and the schedules that only it has."""
 from __future__ import annotations
 
-from typing import Container, Dict, List, Mapping, NamedTuple
+from collections.abc import Container, Mapping
+from typing import NamedTuple
 
 from .._extract import Extract
 from ..days import Dates, TrainsPerDay, Window
@@ -15,10 +16,10 @@ class Schedules(NamedTuple):
     """The trains of each operator on each date, how many trains there are, of those that were asked
     for the ones that run, each with its identity, and the schedules on own dates of a train."""
 
-    trains_per_day: Dict[str, List[int]]
+    trains_per_day: dict[str, list[int]]
     trains: int
-    found: Dict[bytes, str]
-    own: List[OwnSchedule]
+    found: dict[bytes, str]
+    own: list[OwnSchedule]
 
 
 def read_schedules(
@@ -27,8 +28,8 @@ def read_schedules(
     """Reads the schedules of an extract. Of some trains there are dates on which it alone says what
     they do."""
     counter: TrainsPerDay[bytes] = TrainsPerDay(window)
-    found: Dict[bytes, str] = {}
-    own: List[OwnSchedule] = []
+    found: dict[bytes, str] = {}
+    own: list[OwnSchedule] = []
     uids = 0
     before = b""
     with extract.table("schedules") as table:

@@ -3,8 +3,6 @@ from __future__ import annotations
 
 import os
 from datetime import date, datetime
-from typing import List, Tuple
-
 
 from .days import MONTH_NAMES
 from .pair import Side
@@ -129,7 +127,7 @@ def figures(report: Report) -> Markup:
         (DATA, "with other data alone"),
     ]
     rows = [(kind, numbers.of_kind[kind], label) for kind, label in of_trains]
-    others: List[Tuple[str, int, str]] = [
+    others: list[tuple[str, int, str]] = [
         (
             "associations",
             len(report.comparison.associations),
@@ -140,7 +138,7 @@ def figures(report: Report) -> Markup:
     return fill("figures", trains=joined(map(figure, rows)), others=joined(map(figure, others)))
 
 
-def figure(row: Tuple[str, int, str]) -> Markup:
+def figure(row: tuple[str, int, str]) -> Markup:
     kind, number, label = row
     state = "some" if number else "none"
     return fill("figure", kind=kind, label=label, number=f"{number:,}", state=state)

@@ -2,11 +2,12 @@
 from __future__ import annotations
 
 import re
+from collections.abc import Iterable
 from functools import lru_cache
 from html import escape
 from pathlib import Path
 from string import Template
-from typing import Dict, Iterable
+
 
 HERE = Path(__file__).resolve().parent
 PART = re.compile("^<!-- part ([a-z_]+) -->$", re.MULTILINE)
@@ -22,9 +23,9 @@ def file_text(name: str) -> str:
 
 
 @lru_cache(maxsize=None)
-def templates() -> Dict[str, Template]:
+def templates() -> dict[str, Template]:
     """The parts of all files of HTML by their names. A comment such as `<!-- part page -->` begins one."""
-    found: Dict[str, Template] = {}
+    found: dict[str, Template] = {}
     for path in HERE.glob("*.html"):
         _, *parts = PART.split(file_text(path.name))
         for name, text in zip(parts[::2], parts[1::2]):

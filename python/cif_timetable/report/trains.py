@@ -3,9 +3,10 @@ from __future__ import annotations
 
 import json
 import re
+from collections.abc import Iterator, Sequence
 from datetime import date, timedelta
 from itertools import groupby, islice
-from typing import Dict, Iterator, List, NamedTuple, Optional, Sequence, Tuple
+from typing import NamedTuple
 
 from ..days import Dates
 
@@ -64,12 +65,12 @@ def symbol_of(change: Change) -> str:
     return SYMBOLS.get(change.phrases[0].kind, DIFFERENT)
 
 
-def weeks_of(report: Report, changes: Sequence[Change]) -> List[Week]:
+def weeks_of(report: Report, changes: Sequence[Change]) -> list[Week]:
     """The weeks in which something is different."""
     days = report.comparison.window.days
     offset = days[0].weekday()
     first_monday = days[0] - timedelta(days=offset)
-    symbols: List[str] = []
+    symbols: list[str] = []
     for change in changes:
         signs = signs_of(change.dates << offset)
         symbols += " " * (len(signs) + 7 - len(symbols))
@@ -80,10 +81,10 @@ def weeks_of(report: Report, changes: Sequence[Change]) -> List[Week]:
     return [Week(first_monday + timedelta(days=at), days) for at, days in weeks if days.strip()]
 
 
-def repeated(weeks: Sequence[Week]) -> Iterator[List[Week]]:
+def repeated(weeks: Sequence[Week]) -> Iterator[list[Week]]:
     """Weeks that follow one another and are alike."""
 
-    def likeness(item: Tuple[int, Week]) -> Tuple[str, date]:
+    def likeness(item: tuple[int, Week]) -> tuple[str, date]:
         number, week = item
         return week.days, week.monday - timedelta(days=7 * number)
 
@@ -138,7 +139,7 @@ def time_text(time: bytes) -> str:
     return f"{text[:2]}:{text[2:4]}{'½' if text.endswith('H') else ''}" if text else ""
 
 
-def cells_of(call: Optional[Call], with_public: bool) -> Tuple[str, str, str]:
+def cells_of(call: Call | None, with_public: bool) -> tuple[str, str, str]:
     """The arrival, the departure or the pass, and the platform."""
     if call is None:
         return "", "", ""
@@ -158,7 +159,7 @@ def call_cells(cells: Sequence[str], others: Sequence[str]) -> Iterator[Markup]:
         yield Markup(f"<td><mark>{text}</mark>" if text and cell != other else f"<td>{text}")
 
 
-def call_row(report: Report, old: Optional[Call], new: Optional[Call]) -> Markup:
+def call_row(report: Report, old: Call | None, new: Call | None) -> Markup:
     """A call in both journeys. Public times stand there if nothing else of its times differs."""
     name = next(report.names.at(call) for call in (new, old) if call)
     with_public = False
@@ -196,7 +197,7 @@ def body_at(report: Report, place: Place) -> Body:
     return body_of(report.bodies.text(place))
 
 
-def places_of(bodies: Sequence[Body]) -> List[str]:
+def places_of(bodies: Sequence[Body]) -> list[str]:
     return list(dict.fromkeys(text_of(call.location) for body in bodies for call in body.calls))
 
 
@@ -208,8 +209,8 @@ class Places:
 
     def __init__(self, names: Names) -> None:
         self.names = names
-        self.numbers: Dict[str, int] = {}
-        self.rows: List[str] = []
+        self.numbers: dict[str, int] = {}
+        self.rows: list[str] = []
 
     def keep(self, count: int) -> None:
         """Forgets all places but the first ones."""
@@ -246,7 +247,7 @@ class TrainsPart:
         self.places = Places(report.names)
         self.shown = 0
         # those of the trains, each with its option of the filter
-        self.operators: Dict[str, Markup] = {}
+        self.operators: dict[str, Markup] = {}
 
     def train(self, train: Train) -> Markup:
         names = self.report.names
@@ -277,7 +278,7 @@ class TrainsPart:
             calls=joined(calls),
         )
 
-    def fitting(self, train: Train) -> Optional[Markup]:
+    def fitting(self, train: Train) -> Markup | None:
         """A train, or none if there is no room for it. Then nothing is kept of it."""
         places, operators = len(self.places.rows), len(self.operators)
         made = self.train(train)
@@ -290,7 +291,7 @@ class TrainsPart:
         self.left -= size
         return made
 
-    def group(self, group: Group) -> Optional[Markup]:
+    def group(self, group: Group) -> Markup | None:
         """A group, or none if there is no room for it with one train."""
         first, room = group.trains[0], self.left
         values = {
@@ -301,7 +302,7 @@ class TrainsPart:
         }
         more = self.more(group.others + len(group.trains))
         self.left -= size_of([fill("group", **values, trains="", more=more)])
-        shown: List[Markup] = []
+        shown: list[Markup] = []
         for train in group.trains:
             made = self.fitting(train)
             if made is not None:
@@ -336,7 +337,7 @@ class TrainsPart:
     def option(self, code: str) -> Markup:
         return fill("option", value=code, name=self.operator_name(code))
 
-    def options(self) -> Tuple[Markup, Markup]:
+    def options(self) -> tuple[Markup, Markup]:
         """Those of the filter: operators and kinds."""
         operators = joined(
             self.operators[code] for code in sorted(self.operators, key=self.operator_name)
@@ -361,7 +362,7 @@ def note_of(report: Report) -> str:
     )
 
 
-def trains_section(report: Report, most: int, most_bytes: int) -> Tuple[Markup, Markup]:
+def trains_section(report: Report, most: int, most_bytes: int) -> tuple[Markup, Markup]:
     """The part, and the data for the script."""
     count = len(report.comparison.trains)
     if not count:

@@ -2,7 +2,8 @@
 from __future__ import annotations
 
 from collections import Counter
-from typing import Callable, Iterator, List, NamedTuple, Optional, Sequence, Tuple
+from collections.abc import Callable, Iterator, Sequence
+from typing import NamedTuple
 
 from .days import listed
 from .journeys import BASIC_FIELDS, EXTRA_FIELDS, Body, Call, Pair, Row, rows_of, text_of
@@ -113,10 +114,10 @@ class Step(NamedTuple):
     shift: int
 
 
-def steps_of(rows: Sequence[Row]) -> List[Step]:
+def steps_of(rows: Sequence[Row]) -> list[Step]:
     """The steps of all places where both call, or both pass. The first call of both is on the date
     of the train; at the others a midnight may lie between."""
-    steps: List[Step] = []
+    steps: list[Step] = []
     shift = 0
     for number, (old, new) in enumerate(rows):
         if old is None or new is None or old.passes != new.passes:
@@ -168,7 +169,7 @@ def where(steps: Sequence[Step], first: int, last: int, names: Names) -> str:
     return f" as far as {end}" if first == 0 else f" from {start} to {end}"
 
 
-def public_times(call: Call) -> Tuple[bytes, ...]:
+def public_times(call: Call) -> tuple[bytes, ...]:
     """The public times, of which noughts and blanks are none."""
     there = call.public_arrival, call.public_departure
     return tuple(time if time.strip(b" 0") else b"" for time in there)
@@ -244,7 +245,7 @@ def stops_between(old: Body, new: Body, between: Sequence[Row], names: Names) ->
             yield Phrase(PLACES, f"{text} {some(found, 'places')}")
 
 
-def stops(call: Optional[Call]) -> bool:
+def stops(call: Call | None) -> bool:
     return call is not None and not call.passes
 
 
@@ -315,16 +316,16 @@ def data(old: Body, new: Body, pairs: Sequence[Pair], names: Names) -> Iterator[
         yield Phrase(DATA, "other data")
 
 
-def fields_of(old: Body, new: Body) -> Iterator[Tuple[str, str, str]]:
+def fields_of(old: Body, new: Body) -> Iterator[tuple[str, str, str]]:
     none = (b"",) * len(EXTRA_FIELDS)
     before, after = ((*body.basic, *(body.extra or none)) for body in (old, new))
     yield from zip((*BASIC_FIELDS, *EXTRA_FIELDS), map(text_of, before), map(text_of, after))
 
 
-def phrases_of(old: Body, new: Body, names: Names) -> Tuple[Phrase, ...]:
+def phrases_of(old: Body, new: Body, names: Names) -> tuple[Phrase, ...]:
     """All that is different."""
     rows = rows_of(old.calls, new.calls)
-    found: List[Phrase] = []
+    found: list[Phrase] = []
     if not same_places(old, new):
         found += places(old, new, rows, names)
         found = found or [Phrase(PLACES, "other calls")]

@@ -1,10 +1,10 @@
 """Databases that are filled by processes of their own, while the next rows are read."""
 from __future__ import annotations
 
-from contextlib import contextmanager
+from collections.abc import Callable, Iterator, Sequence
+from contextlib import AbstractContextManager, contextmanager
 from multiprocessing import get_context
 from multiprocessing.connection import Connection
-from typing import Callable, ContextManager, Iterator, List, Optional, Sequence
 
 from ..errors import CifError, Failed
 from .._files import interrupts_waiting
@@ -12,7 +12,7 @@ from .._running import ignore_interrupts
 
 from .schema import Database
 
-Opened = Callable[[], ContextManager[Database]]
+Opened = Callable[[], AbstractContextManager[Database]]
 
 # A copy of this process needs neither a start of Python nor anything handed over.
 PROCESSES = get_context("fork")
@@ -47,7 +47,7 @@ class Background(Database):
         if ending is not None:
             raise ending
 
-    def ending(self) -> Optional[CifError]:
+    def ending(self) -> CifError | None:
         """What ended the process early, or None once it has done all."""
         try:
             ending = self.process.recv()
@@ -63,7 +63,7 @@ def fill_all(opened: Opened, ours: Connection, others: Sequence[Connection]) -> 
     ignore_interrupts()
     for other in others:
         other.close()
-    ending: Optional[CifError] = None
+    ending: CifError | None = None
     try:
         with opened() as database:
             message = ours.recv()
@@ -84,7 +84,7 @@ def fill_all(opened: Opened, ours: Connection, others: Sequence[Connection]) -> 
 
 
 @contextmanager
-def in_background(databases: Sequence[Opened]) -> Iterator[List[Background]]:
+def in_background(databases: Sequence[Opened]) -> Iterator[list[Background]]:
     """Databases, each of which another process opens and fills. They are complete when the block
     ends; if the block fails, nobody writes into them any more."""
     pipes = [PROCESSES.Pipe() for _ in databases]

@@ -4,9 +4,9 @@ from __future__ import annotations
 import argparse
 import os
 import re
+from collections.abc import Sequence
 from contextlib import ExitStack
 from pathlib import Path
-from typing import Optional, Sequence
 
 from .._arguments import add_cif, add_help, add_names, add_reading, new_parser
 from .._arguments import request_of
@@ -40,7 +40,7 @@ statuses:
 """
 
 
-def arguments_of(words: Optional[Sequence[str]]) -> argparse.Namespace:
+def arguments_of(words: Sequence[str] | None) -> argparse.Namespace:
     parser = new_parser(PROGRAM, ABOUT, STATUSES)
     add = parser.add_argument
     add_reading(parser)
@@ -112,7 +112,7 @@ def write_script(asked: argparse.Namespace, progress: Progress) -> int:
     return SUCCESS
 
 
-def main(words: Optional[Sequence[str]] = None) -> int:
+def main(words: Sequence[str] | None = None) -> int:
     asked = arguments_of(words)
     leave_cycles()
     make = write_script if asked.postgres else make_file

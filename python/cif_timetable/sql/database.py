@@ -3,12 +3,12 @@ from __future__ import annotations
 
 import hashlib
 import os
+from collections.abc import Callable, Iterator
 from concurrent.futures import ThreadPoolExecutor
 from contextlib import contextmanager
 from datetime import datetime, timezone
 from functools import partial
 from pathlib import Path
-from typing import Callable, Iterator, Optional
 
 from .._extract import Extract
 from .._files import BLOCK, new_files
@@ -22,7 +22,7 @@ from .loading import Source, UserFiles, load
 from .sqlite_file import Parts, check_age, check_place, join_parts, new_part
 
 
-def user_files(places: Optional[str], operators: Optional[str]) -> UserFiles:
+def user_files(places: str | None, operators: str | None) -> UserFiles:
     """What the files of the user have, as far as there are any."""
     return UserFiles(read_file(PLACES, places), read_operators(operators))
 

@@ -2,11 +2,12 @@
 from __future__ import annotations
 
 import re
+from collections.abc import Callable, Iterator, Mapping
 from contextlib import ExitStack
 from dataclasses import astuple
 from datetime import timedelta
 from operator import itemgetter
-from typing import IO, Callable, Dict, Iterator, List, Mapping, NamedTuple, Tuple
+from typing import IO, NamedTuple
 
 from ..user_csv import Key
 from ..days import TrainsPerDay, Window
@@ -47,9 +48,9 @@ class UserFiles(NamedTuple):
 # ---- places, associations, dates
 
 
-def load_places(database: Database, rows: List[Location], places: Places) -> None:
-    locations: Dict[str, Row] = {}
-    stations: Dict[str, Row] = {}
+def load_places(database: Database, rows: list[Location], places: Places) -> None:
+    locations: dict[str, Row] = {}
+    stations: dict[str, Row] = {}
     for row in rows:
         name = row.tiploc.strip()
         tiploc, station = places.tiploc(name), places.station_name(name)
@@ -75,7 +76,7 @@ def load_dates(database: Database, window: Window, midnights: int) -> None:
     by_clock.flush()
 
 
-def trains_per_day(counter: TrainsPerDay[Tuple[str, int]]) -> Iterator[Row]:
+def trains_per_day(counter: TrainsPerDay[tuple[str, int]]) -> Iterator[Row]:
     """The rows of dates with trains, by operator, and by whether the trains are for passengers."""
     for (operator, passenger), counts in counter.counts():
         for day, count in zip(counter.window.days, counts):
@@ -89,7 +90,7 @@ def trains_per_day(counter: TrainsPerDay[Tuple[str, int]]) -> Iterator[Row]:
 class Spooled(NamedTuple):
     """A table that was read before the calls: the names of its fields, and its rows in a file."""
 
-    names: List[str]
+    names: list[str]
     file: IO[bytes]
 
     def table(self) -> Table:
@@ -132,7 +133,7 @@ def with_number(number: int, text: bytes) -> bytes:
 MOMENT = re.compile(rb"\t([0-9]{2,}:[0-9]{2}:[0-9]{2})(?=\t)")
 
 
-class Moments(Dict[bytes, bytes]):
+class Moments(dict[bytes, bytes]):
     """The seconds of each moment HH:MM:SS that is met, after a tab. Hours may go on past 24.
     `midnights` is how many are before the last moment."""
 
@@ -165,7 +166,7 @@ class Journey(NamedTuple):
 class Journeys:
     """Fills the tables of journeys, each journey of a UID once."""
 
-    def __init__(self, database: Database, calls: List[str], public: List[str], changes: List[str]):
+    def __init__(self, database: Database, calls: list[str], public: list[str], changes: list[str]):
         self.journeys = Filler(database, "journeys", ("id", "uid"))
         self.calls = Filler(database, "calls", in_database(calls))
         self.changes = Filler(database, "changes", in_database(changes))
@@ -175,7 +176,7 @@ class Journeys:
         self.origin = itemgetter(*(calls.index(name) - 1 for name in ("location", "departure")))
         self.destination = itemgetter(*(calls.index(name) - 1 for name in ("location", "arrival")))
         self.uid = ""
-        self.of_uid: Dict[Tuple[bytes, bytes], Journey] = {}
+        self.of_uid: dict[tuple[bytes, bytes], Journey] = {}
         self.count = 0
 
     def journey(self, uid: str, calls: bytes, public: bytes, changes: bytes) -> Journey:
@@ -215,7 +216,7 @@ IN_SECONDS = {"arrival": "arrival_seconds", "departure": "departure_seconds"}
 FURTHER = "operator_name passenger journey origin departure destination arrival".split()
 
 
-def in_database(names: List[str]) -> List[str]:
+def in_database(names: list[str]) -> list[str]:
     """The names that the fields of a table of `cif` have in the database."""
     return [NAMES.get(name, name) for name in names]
 
@@ -229,11 +230,11 @@ class Schedules:
     KEY = ("operator_code", "status", "category", "first_date", "last_date", "days_run")
 
     def __init__(
-        self, database: Database, window: Window, given: UserFiles, names: List[str]
+        self, database: Database, window: Window, given: UserFiles, names: list[str]
     ) -> None:
         self.given = given
-        self.per_day: TrainsPerDay[Tuple[str, int]] = TrainsPerDay(window)
-        self.names_of: Dict[str, str] = {"": ""}
+        self.per_day: TrainsPerDay[tuple[str, int]] = TrainsPerDay(window)
+        self.names_of: dict[str, str] = {"": ""}
         self.schedules = Filler(database, "schedules", ["id", *in_database(names[1:]), *FURTHER])
         self.key = itemgetter(*(names.index(name) for name in self.KEY))
 
@@ -242,7 +243,7 @@ class Schedules:
             self.names_of[code] = operator_name(code, self.given.operators)
         return self.names_of[code]
 
-    def add(self, line: str, cells: List[str], journey: Journey) -> None:
+    def add(self, line: str, cells: list[str], journey: Journey) -> None:
         operator, status, category, *dates = self.key(cells)
         passenger = int(journey.public_calls >= 2 and is_for_riders(status, category))
         further = f"{self.operator_name(operator)}\t{passenger}\t{journey.number}\t{journey.ends}"

@@ -3,8 +3,9 @@ from __future__ import annotations
 
 import re
 import shutil
+from collections.abc import Sequence
 from contextlib import ExitStack
-from typing import IO, Dict, NamedTuple, Sequence
+from typing import IO, NamedTuple
 
 from ..user_csv import CONTROL
 from ..errors import Misused
@@ -41,7 +42,7 @@ class PostgresScript(Database):
 
     def __init__(self, stack: ExitStack) -> None:
         self.stack = stack
-        self.tables: Dict[str, Copied] = {}
+        self.tables: dict[str, Copied] = {}
 
     def fill(self, table: str, names: Sequence[str], rows: bytes) -> None:
         if table not in self.tables:

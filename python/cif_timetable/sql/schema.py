@@ -1,15 +1,15 @@
 """The definitions of tables, indexes and views, which are in SQL files, and where rows go."""
 from __future__ import annotations
 
+from collections.abc import Iterable, Sequence
 from datetime import date
 from pathlib import Path
-from typing import Iterable, List, Optional, Sequence, Union
 
 from ..model import Header
 
 HERE = Path(__file__).resolve().parent
 
-Value = Union[None, str, int, float, date]
+Value = None | str | int | float | date
 Row = Sequence[Value]
 
 
@@ -18,7 +18,7 @@ def sql(name: str) -> str:
     return (HERE / f"{name}.sql").read_text(encoding="ascii")
 
 
-def moment_of(header: Header) -> Optional[str]:
+def moment_of(header: Header) -> str | None:
     """When an extract was made, as a database has it."""
     return header.extracted_at.isoformat(timespec="minutes") if header.extracted_at else None
 
@@ -41,7 +41,7 @@ class Filler:
         self.database = database
         self.table = table
         self.names = names
-        self.texts: List[bytes] = []
+        self.texts: list[bytes] = []
         self.size = 0
 
     def add(self, rows: bytes) -> None:

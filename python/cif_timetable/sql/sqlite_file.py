@@ -2,9 +2,9 @@
 from __future__ import annotations
 
 import sqlite3
+from collections.abc import Iterator, Sequence
 from contextlib import closing, contextmanager
 from pathlib import Path
-from typing import Iterator, Optional, Sequence, Tuple
 from urllib.parse import quote
 
 from ..errors import Failed, Refused
@@ -28,10 +28,10 @@ MOST_CELLS = 999
 LONGEST = "calls"
 
 # The moment of an extract, then its window. One without a moment is older than all others.
-Age = Tuple[str, str, str]
+Age = tuple[str, str, str]
 
 
-def age_of(moment: Optional[str], first: str, last: str) -> Age:
+def age_of(moment: str | None, first: str, last: str) -> Age:
     return (moment or "", first, last)
 
 
