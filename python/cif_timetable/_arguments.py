@@ -11,9 +11,8 @@ from typing import IO
 
 from . import __version__  # pylint: disable=cyclic-import
 from ._extract import Request
-from .errors import SUCCESS
 from ._running import open_streams, printable, run, standard_output
-
+from .errors import SUCCESS
 
 MOST_PROCESSES = 64
 # An option with the value `--`, which argparse takes away in some releases of Python.

@@ -15,8 +15,8 @@ from contextlib import ExitStack, contextmanager, suppress
 from pathlib import Path
 from typing import IO, Any
 
-from .errors import Failed, Misused
 from ._running import INTERRUPTS, ends_by_interrupts, ignore_interrupts
+from .errors import Failed, Misused
 
 BLOCK = 1 << 20
 

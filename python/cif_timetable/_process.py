@@ -11,8 +11,8 @@ from contextlib import contextmanager
 from pathlib import Path
 from typing import IO
 
-from .errors import FAILED, REFUSED, SUCCESS, USAGE, CifEnded, CifError, Failed, Unexpected
 from ._files import BLOCK, scratch_file
+from .errors import FAILED, REFUSED, SUCCESS, USAGE, CifEnded, CifError, Failed, Unexpected
 
 # How cif begins a line of what it reports.
 SAID = "cif: "

@@ -12,8 +12,8 @@ from contextlib import contextmanager
 from types import FrameType
 from typing import IO
 
-from .errors import FAILED, CifError, Failed
 from ._progress import Progress
+from .errors import FAILED, CifError, Failed
 
 INTERRUPTS = (signal.SIGINT, signal.SIGTERM, signal.SIGHUP)
 # What a terminal would act on, as it can stand in the name of a file; all but the line break.

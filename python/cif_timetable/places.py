@@ -6,8 +6,8 @@ from collections.abc import Iterable, Iterator, Mapping
 from dataclasses import dataclass
 from typing import NamedTuple
 
-from .user_csv import Field, Key, Layout, degrees, plain_text
 from .model import Location
+from .user_csv import Field, Key, Layout, degrees, plain_text
 
 # Words that have small letters, unless a name or a bracket begins with one, and words that stay in
 # capitals.

@@ -22,8 +22,20 @@ from ._extract import Extract, Request, difference_of, open_extract, yymmdd
 from ._process import find_cif, ignored
 from ._tables import heading_of
 from .errors import CifEnded, Unexpected
-from .model import Association, Call, ChangeCounts, ChangeEnRoute, Changes, Counts, Difference
-from .model import Header, Location, PublicCall, Schedule, Train
+from .model import (
+    Association,
+    Call,
+    ChangeCounts,
+    ChangeEnRoute,
+    Changes,
+    Counts,
+    Difference,
+    Header,
+    Location,
+    PublicCall,
+    Schedule,
+    Train,
+)
 
 if TYPE_CHECKING:
     import pandas

@@ -12,7 +12,6 @@ from typing import NamedTuple
 
 from ..days import Dated, Dates, Window, count_of, moved
 from ..model import Association as AssociationRow
-
 from .calls import DAY, HOUR, Spot, Variant
 
 DIVIDE = "VV"

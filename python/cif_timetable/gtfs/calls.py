@@ -11,7 +11,6 @@ from functools import lru_cache
 from typing import NamedTuple
 
 from ..days import Dated, Dates
-
 from .trains import About, Record
 
 HOUR = 3600

@@ -5,16 +5,22 @@ import argparse
 import sys
 from collections.abc import Sequence
 
-from .._arguments import add_cif, add_help, add_names, add_reading, new_parser
-from .._arguments import add_processes, request_of
-from .._process import find_cif
-from ..user_csv import Mistake, mail_address, name_of_publisher, shown, web_address
-from ..errors import SUCCESS, Misused
+from .._arguments import (
+    add_cif,
+    add_help,
+    add_names,
+    add_processes,
+    add_reading,
+    new_parser,
+    request_of,
+)
+from .._extract import open_extract
 from .._files import check_inputs_stay, output_path
+from .._process import find_cif
 from .._progress import Progress
 from .._running import leave_cycles, run
-from .._extract import open_extract
-
+from ..errors import SUCCESS, Misused
+from ..user_csv import Mistake, mail_address, name_of_publisher, shown, web_address
 from .conversion import Outputs, Wishes, convert, user_files
 from .feed import Publisher
 from .trains import EXTENDED_TYPES, TYPES

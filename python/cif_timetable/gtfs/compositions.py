@@ -10,7 +10,6 @@ from collections.abc import Collection, Iterator, Mapping, Sequence
 from typing import NamedTuple
 
 from ..days import Dated, Dates, count_of, moved
-
 from .associations import ROLES, Association, Held, LeftOut, Reason, Role, Variants, by_uid
 from .calls import Variant
 

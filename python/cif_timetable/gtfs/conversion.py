@@ -10,23 +10,29 @@ from itertools import chain, islice
 from pathlib import Path
 from typing import IO, NamedTuple
 
-from ..user_csv import Key, read_file
+from .._extract import Extract
+from .._files import new_files, scratch_file
+from .._progress import Progress
+from .._schedules import numbered, numbers_of, rows_of
+from .._tables import Table, rows_with
+from .._workers import in_processes
 from ..days import Dated, Dates, Window
 from ..errors import Refused
-from .._files import new_files, scratch_file
+from ..model import Association as AssociationRow, Header, Location
 from ..operators import OperatorRow, read_operators
 from ..places import PLACES, PlaceRow, Places
-from .._progress import Progress
-from .._workers import in_processes
-from .._schedules import numbered, numbers_of, rows_of
-from .._extract import Extract
-from .._tables import Table, rows_with
-from ..model import Association as AssociationRow
-from ..model import Header, Location
-
+from ..user_csv import Key, read_file
 from . import feed
-from .associations import CATEGORIES, ROLES, Association, LeftOut, Reason, associations_of
-from .associations import by_uid, decide_all
+from .associations import (
+    CATEGORIES,
+    ROLES,
+    Association,
+    LeftOut,
+    Reason,
+    associations_of,
+    by_uid,
+    decide_all,
+)
 from .calls import RunsAs, Spot, Stop, Variant, stops_at
 from .compositions import compositions_of, groups_of, linked_dates
 from .parts import Index, Part, Schedules, in_thread, parts_of, processes_for

@@ -10,11 +10,10 @@ from contextlib import contextmanager
 from itertools import islice
 from typing import IO, NamedTuple
 
-from ..user_csv import Key, csv_cell
-from ..days import WEEKDAYS, Dates
 from .._files import BLOCK, scratch_file
+from ..days import WEEKDAYS, Dates
 from ..model import Header
-
+from ..user_csv import Key, csv_cell
 from .routes import Ends, Routes
 from .services import Services
 from .stops import Stops

@@ -5,9 +5,8 @@ from collections import defaultdict
 from collections.abc import Iterable, Mapping
 from typing import NamedTuple
 
-from ..user_csv import Key, csv_cell
 from ..operators import OperatorRow, operator_name
-
+from ..user_csv import Key, csv_cell
 from .stops import Stops, coded, stop_id
 
 NO_OPERATOR = "unknown"

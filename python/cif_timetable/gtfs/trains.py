@@ -6,11 +6,11 @@ from enum import Enum
 from operator import itemgetter
 from typing import NamedTuple
 
-from ..errors import Unexpected
-from ..days import Dates, Window, count_of
-from ..riders import is_for_riders
 from .._schedules import calls_by_schedule
 from .._tables import Table
+from ..days import Dates, Window, count_of
+from ..errors import Unexpected
+from ..riders import is_for_riders
 
 
 class Kind(Enum):

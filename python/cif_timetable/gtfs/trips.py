@@ -6,10 +6,9 @@ from collections.abc import Iterable, Iterator, Mapping, Sequence
 from hashlib import blake2b
 from typing import NamedTuple
 
+from .._schedules import rows_of
 from ..days import Dates, moved
 from ..errors import Refused
-from .._schedules import rows_of
-
 from .associations import DIVIDE, JOIN, ROLES, Role
 from .calls import Variant, arriving, days_later, is_for_nobody, leaving, location_of, met
 from .compositions import Composition, Edge, Node

@@ -5,10 +5,9 @@ import csv
 from pathlib import Path
 from typing import NamedTuple
 
-from ..user_csv import Lines, Unreadable
-from ..errors import Misused
 from .._files import NewFiles
-
+from ..errors import Misused
+from ..user_csv import Lines, Unreadable
 from .feed import Row, csv_of
 from .stops import Stops
 

@@ -5,7 +5,6 @@ from __future__ import annotations
 import re
 
 from ..errors import Refused
-
 from .public_file import Row, lines_of, refusal
 
 COMMENT = "/!!"

@@ -6,9 +6,8 @@ import io
 from collections.abc import Callable, Sequence
 
 from .._arguments import add_help, new_parser
-from ..errors import SUCCESS
 from .._running import run, standard_output
-
+from ..errors import SUCCESS
 from . import alf, msn, naptan
 from .public_file import Row
 

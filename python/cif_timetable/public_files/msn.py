@@ -7,7 +7,6 @@ from typing import NamedTuple
 
 from ..errors import Refused
 from ..places import in_small_letters
-
 from .grid import latitude_and_longitude
 from .public_file import PLACES, Row, checked_text, lines_of, refusal
 

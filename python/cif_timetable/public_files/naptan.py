@@ -7,9 +7,8 @@ import re
 from collections.abc import Iterator
 from typing import NamedTuple
 
-from ..user_csv import Lines, Mistake, Unreadable, degrees
 from ..places import PlaceRow, mistakes_of_place
-
+from ..user_csv import Lines, Mistake, Unreadable, degrees
 from .grid import latitude_and_longitude
 from .public_file import MOST_BYTES, PLACES, Row, checked_text, refusal
 

@@ -4,8 +4,8 @@ from __future__ import annotations
 from collections.abc import Iterator, Sequence
 from typing import NamedTuple
 
-from ..user_csv import Lines, Mistake, Unreadable, plain_text, shown
 from ..errors import Refused
+from ..user_csv import Lines, Mistake, Unreadable, plain_text, shown
 
 MOST_BYTES = 1 << 30
 

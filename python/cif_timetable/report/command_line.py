@@ -6,17 +6,23 @@ import io
 from collections.abc import Sequence
 from pathlib import Path
 
-from .._arguments import add_cif, add_help, add_names, add_reading, new_parser
-from .._arguments import preparing_of, request_of
-from .._process import find_cif
-from ..user_csv import read_file
-from ..errors import SUCCESS, Misused, Refused
+from .._arguments import (
+    add_cif,
+    add_help,
+    add_names,
+    add_reading,
+    new_parser,
+    preparing_of,
+    request_of,
+)
 from .._files import check_inputs_stay, new_files, output_path, scratch_file
-from ..operators import operator_name, read_operators
-from ..places import PLACES, Places
+from .._process import find_cif
 from .._progress import Progress
 from .._running import leave_cycles, run
-
+from ..errors import SUCCESS, Misused, Refused
+from ..operators import operator_name, read_operators
+from ..places import PLACES, Places
+from ..user_csv import read_file
 from .comparison import compare, numbers_of
 from .days import Calendar
 from .differences import Bodies

@@ -6,14 +6,24 @@ from collections.abc import Iterator, Mapping, Sequence
 from itertools import chain
 from typing import NamedTuple
 
-from ..days import Dates, Window, count_of
 from .._progress import Progress
-
+from ..days import Dates, Window, count_of
 from ..model import Association
 from .associations import AssociationChange, association_changes
 from .days import DateCounts
-from .differences import NEW, OLD, Bodies, ByDates, Differences, OwnDates, Part, Place, Said, Sides
-from .differences import digest_of_journey
+from .differences import (
+    NEW,
+    OLD,
+    Bodies,
+    ByDates,
+    Differences,
+    OwnDates,
+    Part,
+    Place,
+    Said,
+    Sides,
+    digest_of_journey,
+)
 from .journeys import Body, OwnSchedule, bodies_of, body_of, text_of
 from .locations import LocationChange, location_changes
 from .pair import Pair

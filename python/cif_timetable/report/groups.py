@@ -5,7 +5,6 @@ from collections.abc import Iterator, Sequence
 from typing import NamedTuple
 
 from ..days import Dates, count_of
-
 from .comparison import Train
 
 # So many trains of a group are shown, unless all are.

@@ -2,7 +2,6 @@
 from __future__ import annotations
 
 from .. import __version__  # pylint: disable=cyclic-import
-
 from .daily import calendar_section, days_section
 from .others import associations_section, places_section
 from .report import Report

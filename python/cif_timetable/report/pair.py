@@ -5,11 +5,11 @@ from collections.abc import Iterator
 from contextlib import ExitStack, contextmanager
 from typing import NamedTuple
 
+from .._extract import Extract, Request, difference_of, open_extract, yymmdd
 from .._process import Cif
+from .._tables import Table, heading_of
 from ..days import Window
 from ..errors import Failed, Misused
-from .._extract import Extract, Request, difference_of, open_extract, yymmdd
-from .._tables import Table, heading_of
 from ..model import Header, Location
 
 

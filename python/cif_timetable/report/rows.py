@@ -9,7 +9,6 @@ from .comparison import Comparison
 from .days import Calendar
 from .words import Names
 
-
 # What a formula begins with in a spreadsheet.
 FORMULA = ("=", "+", "-", "@")
 

@@ -8,7 +8,6 @@ from html import escape
 from pathlib import Path
 from string import Template
 
-
 HERE = Path(__file__).resolve().parent
 PART = re.compile("^<!-- part ([a-z_]+) -->$", re.MULTILINE)
 

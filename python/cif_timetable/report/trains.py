@@ -9,7 +9,6 @@ from itertools import groupby, islice
 from typing import NamedTuple
 
 from ..days import Dates
-
 from .comparison import Change, Train
 from .days import signs_of
 from .differences import Place

@@ -6,8 +6,17 @@ from collections.abc import Callable, Iterator, Sequence
 from typing import NamedTuple
 
 from .days import listed
-from .journeys import BASIC_FIELDS, EXTRA_FIELDS, Body, Call, Pair, Row, rows_of, text_of
-from .journeys import unlike_pairs
+from .journeys import (
+    BASIC_FIELDS,
+    EXTRA_FIELDS,
+    Body,
+    Call,
+    Pair,
+    Row,
+    rows_of,
+    text_of,
+    unlike_pairs,
+)
 
 RUNS = "runs"
 CANCELLED = "cancelled"

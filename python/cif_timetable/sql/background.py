@@ -6,10 +6,9 @@ from contextlib import AbstractContextManager, contextmanager
 from multiprocessing import get_context
 from multiprocessing.connection import Connection
 
-from ..errors import CifError, Failed
 from .._files import interrupts_waiting
 from .._running import ignore_interrupts
-
+from ..errors import CifError, Failed
 from .schema import Database
 
 Opened = Callable[[], AbstractContextManager[Database]]

@@ -8,8 +8,7 @@ from collections.abc import Sequence
 from contextlib import ExitStack
 from pathlib import Path
 
-from .._arguments import add_cif, add_help, add_names, add_reading, new_parser
-from .._arguments import request_of
+from .._arguments import add_cif, add_help, add_names, add_reading, new_parser, request_of
 from .._extract import is_stream, open_extract
 from .._files import check_inputs_stay, output_path
 from .._process import find_cif

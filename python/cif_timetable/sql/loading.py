@@ -9,20 +9,18 @@ from datetime import timedelta
 from operator import itemgetter
 from typing import IO, NamedTuple
 
-from ..user_csv import Key
-from ..days import TrainsPerDay, Window
-from ..errors import Refused
+from .._extract import Extract
 from .._files import BLOCK, scratch_file
+from .._progress import Progress
+from .._schedules import calls_by_schedule, numbered
+from .._tables import Table, fields_of
+from ..days import TrainsPerDay, Window
+from ..errors import Refused, Unexpected
+from ..model import Association, Header, Location
 from ..operators import OperatorRow, operator_name
 from ..places import PlaceRow, Places
-from .._progress import Progress
 from ..riders import is_for_riders
-from .._schedules import calls_by_schedule, numbered
-from .._extract import Extract
-from .._tables import Table, fields_of
-from ..errors import Unexpected
-from ..model import Association, Header, Location
-
+from ..user_csv import Key
 from .schema import Database, Filler, Row, moment_of, rows_of
 
 # A train has calls after at most so many midnights: each date of the window has a row for each of them. Real trains have two.

@@ -7,11 +7,10 @@ from collections.abc import Sequence
 from contextlib import ExitStack
 from typing import IO, NamedTuple
 
-from ..user_csv import CONTROL
-from ..errors import Misused
 from .._files import BLOCK, scratch_file
+from ..errors import Misused
 from ..model import Header
-
+from ..user_csv import CONTROL
 from .schema import Database, moment_of, sql
 
 # Names that are the same in double quotes and without, and with `_new` have at most 63 letters.

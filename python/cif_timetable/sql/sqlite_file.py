@@ -9,7 +9,6 @@ from urllib.parse import quote
 
 from ..errors import Failed, Refused
 from ..model import Header
-
 from .schema import Database, moment_of, sql
 
 # SQLite's number for the program that a file is of: "cif1", the 1 for the layout of its tables.
