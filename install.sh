@@ -1,5 +1,5 @@
 #!/bin/sh
-# Installs cif and the programs of companions/ below a prefix, or removes them: `install.sh --help` has the details.
+# Installs cif and the programs of python/bin/ below a prefix, or removes them: `install.sh --help` has the details.
 #
 # All files are copied first, each into its folder, and then renamed. If anything fails, the files that were there
 # before are put back. What an installation that was killed has left, `NAME.cif-new.PID` and `NAME.cif-old.PID`, the next one
@@ -24,9 +24,9 @@ help() {
     usage
     cat << 'END'
 
-Installs cif and the programs of companions/, their manual pages and their
+Installs cif and the programs of python/bin/, their manual pages and their
 completions for bash, zsh and fish below PREFIX, a folder such as /usr/local or
-"$HOME/.local". All but cif are Python, of which they need 3.8 or later.
+"$HOME/.local". All but cif are Python, of which they need 3.11 or later.
 
 PATH_TO_CIF is the program. Without it, the program is `cif` beside this script,
 as in an unpacked package, or else dist/cif, as in a clone of the repository.
@@ -53,11 +53,11 @@ each() {
         esac
         "$1" "$file" 644 "$base/share/$place" || return
     done
-    for file in "$top"/companions/cif-*; do
+    for file in "$top"/python/bin/cif-*; do
         "$1" "$file" 755 "$base/bin/${file##*/}" || return
     done
-    for file in "$top"/companions/*/*.*; do
-        "$1" "$file" 644 "$base/share/cif/${file#"$top"/companions/}" || return
+    for file in "$top"/python/cif_timetable/*.* "$top"/python/cif_timetable/*/*.*; do
+        "$1" "$file" 644 "$base/share/cif/${file#"$top"/python/}" || return
     done
 }
 

@@ -10,7 +10,7 @@
 #
 # PATH_TO_CIF is the program. Without it, that is dist/cif. VERSION is what the program
 # prints. The Debian package depends on the packages of the libraries that `ldd` lists, and recommends Python, which
-# the programs of companions/ need. Every time stamp is that of the program, or SOURCE_DATE_EPOCH, so the same files give the same bytes.
+# the programs of python/bin/ need. Every time stamp is that of the program, or SOURCE_DATE_EPOCH, so the same files give the same bytes.
 # Debian's base system has all that this needs.
 #
 # If anything fails, the files of FOLDER are as they were before.
@@ -99,6 +99,9 @@ rm -r "$root/usr/share/zsh/site-functions"
 gzip -9n "$root"/usr/share/man/man1/*
 put_documents "$root/usr/share/doc/cif"
 install -m 644 "$top/LICENSE" "$root/usr/share/doc/cif/copyright"
+# Debian's Python imports from there.
+mkdir -p "$root/usr/lib/python3/dist-packages"
+ln -s ../../../share/cif/cif_timetable "$root/usr/lib/python3/dist-packages/cif_timetable"
 dependencies > "$work/dependencies"
 size=$(du -sk "$root/usr" | cut -f 1)
 mkdir "$root/DEBIAN"
@@ -110,7 +113,7 @@ Architecture: amd64
 Maintainer: The Colteapot authors
 Installed-Size: $size
 Depends: $(paste -s -d , "$work/dependencies" | sed 's/,/, /g')
-Recommends: python3 (>= 3.8)
+Recommends: python3 (>= 3.11)
 Section: utils
 Priority: optional
 Description: work out what runs on each date of a CIF timetable extract
@@ -128,10 +131,12 @@ put 755 "$work/$name" "$cif" "$top/install.sh"
 put_documents "$work/$name"
 put 644 "$work/$name/man" "$top"/man/*
 put 644 "$work/$name/completions" "$top"/completions/*
-put 755 "$work/$name/companions" "$top"/companions/cif-*
-for package in "$top"/companions/*/; do
+put 644 "$work/$name" "$top/pyproject.toml" "$top/hatch_build.py"
+put 755 "$work/$name/python/bin" "$top"/python/bin/cif-*
+put 644 "$work/$name/python/cif_timetable" "$top"/python/cif_timetable/*.*
+for package in "$top"/python/cif_timetable/*/; do
     package=${package%/}
-    put 644 "$work/$name/companions/${package##*/}" "$package"/*.*
+    put 644 "$work/$name/python/cif_timetable/${package##*/}" "$package"/*.*
 done
 tar --sort=name --owner=0 --group=0 --numeric-owner --mtime="@$time" -C "$work" -cf "$work/$name.tar" "$name"
 gzip -9n "$work/$name.tar"

@@ -2,12 +2,13 @@
 
 _cif_gtfs() {
     local written=${COMP_WORDS[COMP_CWORD]} before=${COMP_WORDS[COMP_CWORD - 1]}
-    local options='--places --operators --interchange --links --from --to --extended-types --whole-trains'
-    options+=' --publisher --url --email --trips -o --output --cif -h --help -V --version'
+    local options='--places --operators --interchange --links --from --to --holidays --drop-clashes --extended-types --whole-trains'
+    options+=' --processes'
+    options+=' --publisher --url --email --trips --places-wanted -o --output --cif -h --help -V --version'
     COMPREPLY=()
     case $before in
-    --places | --operators | --interchange | --links | --trips | -o | --output | --cif) compopt -o default ;;
-    --from | --to | --publisher | --url | --email) ;;
+    --holidays | --places | --operators | --interchange | --links | --trips | --places-wanted | -o | --output | --cif) compopt -o default ;;
+    --from | --to | --processes | --publisher | --url | --email) ;;
     *)
         if [[ $written == -* ]]; then
             mapfile -t COMPREPLY < <(compgen -W "$options" -- "$written")

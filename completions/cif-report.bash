@@ -2,10 +2,10 @@
 
 _cif_report() {
     local written=${COMP_WORDS[COMP_CWORD]} before=${COMP_WORDS[COMP_CWORD - 1]}
-    local options='--from --to --places --operators --title --most -o --output --cif -h --help -V --version'
+    local options='--from --to --holidays --drop-clashes --places --operators --title --most -o --output --cif -h --help -V --version'
     COMPREPLY=()
     case $before in
-    --places | --operators | -o | --output | --cif) compopt -o default ;;
+    --holidays | --places | --operators | -o | --output | --cif) compopt -o default ;;
     --from | --to | --title | --most) ;;
     *)
         if [[ $written == -* ]]; then

@@ -2,6 +2,8 @@
 
 complete -c cif-report -l from -x -d 'First date of the window'
 complete -c cif-report -l to -x -d 'Last date of the window'
+complete -c cif-report -l holidays -r -F -d 'Dates of the holiday codes'
+complete -c cif-report -l drop-clashes -d 'Leave out what has a clash, on its dates'
 complete -c cif-report -l places -r -F -d 'Names and coordinates'
 complete -c cif-report -l operators -r -F -d 'Names of operators'
 complete -c cif-report -l title -x -d 'The title of the page'

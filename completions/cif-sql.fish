@@ -2,6 +2,8 @@
 
 complete -c cif-sql -l from -x -d 'First date of the window'
 complete -c cif-sql -l to -x -d 'Last date of the window'
+complete -c cif-sql -l holidays -r -F -d 'Dates of the holiday codes'
+complete -c cif-sql -l drop-clashes -d 'Leave out what has a clash, on its dates'
 complete -c cif-sql -l places -r -F -d 'Names and coordinates'
 complete -c cif-sql -l operators -r -F -d 'Names of operators'
 complete -c cif-sql -l postgres -d 'Write a script for psql'

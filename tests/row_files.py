@@ -1,4 +1,4 @@
-#!/usr/bin/env python3
+#!/usr/bin/python3
 r"""row_files.py FOLDER FORM_1 FILE..
 
 Makes a folder in FOLDER for each row that the files have, where the runners of tests/ find it. A row of normalise, check,

@@ -1,4 +1,4 @@
-#!/usr/bin/env python3
+#!/usr/bin/python3
 """Lists the definitions on which the clauses of a function rest, in the order in which they are cited.
 
     list.py [--text] [CRATE SRC_FILE FUNCTION CLAUSES..]

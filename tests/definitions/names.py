@@ -1,4 +1,4 @@
-#!/usr/bin/env python3
+#!/usr/bin/python3
 """Checks that the documents name only what there is.
 
     names.py DOCUMENT..

@@ -1,4 +1,4 @@
-#!/usr/bin/env python3
+#!/usr/bin/python3
 """terminal.py COMMAND ARGUMENT..
 
 Runs the command with its standard error on a terminal, and prints what the terminal got on standard error. The other streams,

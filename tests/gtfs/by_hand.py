@@ -95,9 +95,10 @@ def check_named(counts: Counts, want: Dict[str, List[str]], maker: Maker, specia
         for name in ("places", "operators", "interchange", "links")
         for word in (f"--{name}", f"{name}.csv")
     ]
-    done, files = maker.feed(*options, "--extended-types", special)
+    options += ["--extended-types", "--places-wanted", "wanted.csv"]
+    done, files = maker.feed(*options, special)
     counts.same("special.cif with names, status", 1, done.returncode)
-    wanted = (maker.folder / "places-wanted.csv").read_text()
+    wanted = (maker.folder / "wanted.csv").read_text()
     for name in "agency", "stops", "routes", "transfers", "wanted":
         lines = (wanted if name == "wanted" else files[name]).splitlines()
         missing = [line for line in want[f"{name} with names"] if line not in lines]
@@ -118,8 +119,11 @@ def check(counts: Counts, maker: Maker, special: Path) -> None:
     done, files = maker.feed(special)
     counts.same("special.cif by hand, status", 1, done.returncode)
     counts.same("special.cif by hand, told", want["told"], done.stderr.splitlines())
-    wanted = (maker.folder / "places-wanted.csv").read_text().splitlines()
-    counts.same("special.cif by hand, places-wanted.csv", want["places-wanted"], wanted)
+    done, _ = maker.feed("--places-wanted", "wanted.csv", special)
+    told = "cif-gtfs: stations without coordinates: 5, listed in wanted.csv"
+    counts.same("special.cif by hand, the list is told", told, done.stderr.splitlines()[-1])
+    wanted = (maker.folder / "wanted.csv").read_text().splitlines()
+    counts.same("special.cif by hand, places wanted", want["places-wanted"], wanted)
     for name in "agency", "stops", "routes", "feed_info":
         counts.same(
             f"special.cif by hand, {name}", sorted(want[name]), sorted(files[name].splitlines())

@@ -29,7 +29,8 @@ from .journeys import by_definition, by_feed, transfers_of
 from .validator import ERROR, notices
 
 TOP = Path(__file__).resolve().parents[2]
-COMPANIONS = TOP / "companions"
+PACKAGES = TOP / "python"
+PROGRAMS = PACKAGES / "bin"
 FILES = (
     "stop_times",
     "trips",
@@ -99,18 +100,13 @@ class Maker:
 
     def run(self, *words: Word, program: str = "cif-gtfs") -> subprocess.CompletedProcess[str]:
         named: List[Word] = ["--cif", self.cif] if program == "cif-gtfs" else []
-        call = [COMPANIONS / program, *named, *words]
+        call = [PROGRAMS / program, *named, *words]
         return subprocess.run(call, cwd=self.folder, capture_output=True, text=True, check=False)
-
-    def clear(self) -> None:
-        """Removes the feed and the list of places that another extract has left."""
-        for name in "feed.zip", "places-wanted.csv":
-            (self.folder / name).unlink(missing_ok=True)
 
     def feed(self, *words: Word) -> Tuple[subprocess.CompletedProcess[str], Dict[str, str]]:
         """The answer, and the files of the zip it has made, as texts by their names."""
         made = self.folder / "feed.zip"
-        self.clear()
+        made.unlink(missing_ok=True)
         done = self.run("-o", made.name, *words)
         if not made.exists():
             raise RuntimeError(f"cif-gtfs {words} ends with {done.returncode}: {done.stderr}")

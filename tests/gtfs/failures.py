@@ -1,7 +1,6 @@
 """What is refused, that a failure leaves nothing, and what stays the same from run to run."""
 from __future__ import annotations
 
-import gzip
 import io
 import os
 import pty
@@ -10,6 +9,7 @@ import shutil
 import signal
 import stat
 import subprocess
+import sys
 import time
 import zipfile
 from collections import defaultdict
@@ -17,20 +17,19 @@ from datetime import date, timedelta
 from pathlib import Path
 from typing import Callable, DefaultDict, Dict, FrozenSet, List, Optional, Set, Tuple
 
-from cif_gtfs import trips
-from cif_shared.csv_files import Mistake, mail_address, web_address
-from cif_shared.endings import Refused
-from cif_shared.tables import rows_with, write_part
+from cif_timetable.gtfs import trips
+from cif_timetable.user_csv import Mistake, mail_address, web_address
+from cif_timetable.errors import Refused
+from cif_timetable._tables import rows_with
 
 from . import generated
 from .by_hand import uids_of
-from .checks import COMPANIONS, TOP, Counts, Maker, Word, interrupted
+from .checks import PACKAGES, PROGRAMS, TOP, Counts, Maker, Word, interrupted
 from .feeds import Feed, Shown, active_services
 
 # A generated extract, and how many of its associations stay.
 SEED = 1
 SCHEDULES = 600
-ASSOCIATIONS = 12
 
 # A file of each kind, with what is told of it.
 BAD_FILES = {
@@ -212,7 +211,8 @@ def check_outputs(counts: Counts, maker: Maker, special: Path) -> None:
     kinds = {path.name: path.lstat().st_mode for path in folder.iterdir()}
     for output in others:
         refused(counts, maker, f"the output {output!r}", 2, None, "-o", output, special)
-        refused(counts, maker, f"the trips {output!r}", 2, None, "--trips", output, special)
+        for option in "--trips", "--places-wanted":
+            refused(counts, maker, f"{option} {output!r}", 2, None, option, output, special)
     counts.same(
         "what wasn't a file stays",
         kinds,
@@ -237,87 +237,74 @@ def check_outputs(counts: Counts, maker: Maker, special: Path) -> None:
     )
 
 
-# Lists of places without coordinates that somebody has filled in, or that are other files.
+# Lists of places without coordinates that somebody has filled in, also by a spreadsheet that writes
+# other separators or letters.
 LIST_HEADING = "tiploc,name,latitude,longitude\n"
 FILLED = {
-    "coordinates": LIST_HEADING + "ALPHA,Alpha Junction,51,0\n",
+    "coordinates": LIST_HEADING + "OMEGA,Omega,,\nALPHA,Alpha Junction,51,0\n",
     "a longitude": LIST_HEADING + "ALPHA,Alpha Junction,,0\n",
     "a latitude": LIST_HEADING + "ALPHA,Alpha Junction,51,\n",
-    "a name": LIST_HEADING + "ALPHA,Alpha,,\nOMEGA,Omega,,\n",
-    "no name": LIST_HEADING + "ALPHA,,,\n",
-    "a place that the extract doesn't list": LIST_HEADING + "NOWHERE,The End,,\n",
-    "a remark": LIST_HEADING + "ALPHA,Alpha Junction,,,ask\n",
-    "another file": "monday,tuesday,,\nCall Ann,,,\n",
-    "no CSV": LIST_HEADING + 'ALPHA,"Alpha Junction\n',
+    "other fields": "Latitude ,tiploc\n,BETA\n\n51,ALPHA\n",
+    "semicolons": "\ufeffname;latitude;longitude\r\nK\xf6ln, east;51,5;0\r\n",
+    "tabs": "name\tlatitude\tlongitude\nAlpha\t\t0\n",
+}
+UNREADABLE = {"no CSV": LIST_HEADING + 'ALPHA,"Alpha Junction\n', "a byte 0": "\0"}
+# What has no coordinate: an older list, also of another extract, and what isn't a list at all.
+UNFILLED = {
+    "an older list": LIST_HEADING + "ALPHA,Alpha,,\nNOWHERE,The End, ,\n",
+    "names": LIST_HEADING + "ALPHA,,,\n",
+    "no rows": LIST_HEADING,
+    "another file": "monday,tuesday\n1,2\n",
+    "short rows": LIST_HEADING + "ALPHA\n\n",
+    "nothing": "",
 }
 
 
-def check_filled(counts: Counts, maker: Maker, special: Path, places: Path) -> None:
-    """A list that somebody has filled in is neither replaced nor removed."""
-    wanted = maker.folder / "folder" / "places-wanted.csv"
-    told = [
-        "cif-gtfs: folder/places-wanted.csv has been filled in: rename it, and give it by --places"
-    ]
-    calls: List[Tuple[Word, ...]] = [(), ("--places", places)]
-    for name, text in FILLED.items():
-        wanted.write_text(text)
-        for words in calls:
-            words = ("-o", "folder/feed.zip", *words, special)
-            refused(counts, maker, f"a list with {name}, {words[2:-1]}", 2, told, *words)
-            counts.same(f"a list with {name} stays", text, wanted.exists() and wanted.read_text())
-
-
-def check_place_of_wanted(counts: Counts, maker: Maker, special: Path, unfilled: str) -> None:
-    """The list is a file, or a link to one, as any output."""
-    folder = maker.folder / "folder"
-    wanted, behind = folder / "places-wanted.csv", maker.folder / "behind.csv"
-    wanted.unlink()
-    for is_pipe in False, True:
-        (os.mkfifo if is_pipe else os.mkdir)(wanted)
-        name = "a list that isn't a file"
-        refused(counts, maker, name, 2, None, "-o", "folder/feed.zip", special)
-        (os.unlink if is_pipe else os.rmdir)(wanted)
-    behind.write_text(LIST_HEADING)
-    wanted.symlink_to("../behind.csv")
-    done = maker.run("-o", "folder/feed.zip", special)
-    counts.same(
-        "a list behind a link",
-        (1, True, unfilled),
-        (done.returncode, wanted.is_symlink(), behind.read_text()),
-    )
-    wanted.unlink()
-    behind.rename(wanted)
+def check_filled(counts: Counts, maker: Maker, special: Path) -> None:
+    """A list that somebody has filled in isn't replaced."""
+    wanted = maker.folder / "folder" / "wanted.csv"
+    words = ("-o", "folder/feed.zip", "--places-wanted", "folder/wanted.csv", special)
+    filled = "cif-gtfs: folder/wanted.csv has been filled in: rename it, and give it by --places"
+    unread = "cif-gtfs: folder/wanted.csv isn't a list of places, so it isn't replaced"
+    for texts, told in (FILLED, filled), (UNREADABLE, unread):
+        for name, text in texts.items():
+            for encoding in "utf-8", "latin-1":
+                data = text.encode(encoding, "ignore")
+                wanted.write_bytes(data)
+                refused(counts, maker, f"a list with {name}", 2, [told], *words)
+                counts.same(f"a list with {name} stays", data, wanted.read_bytes())
 
 
 def check_wanted(counts: Counts, maker: Maker, special: Path) -> None:
-    """An older list of places without coordinates goes when no place is without, but not if somebody has filled it in."""
+    """The list of places without coordinates is written where it is asked for, and nowhere else."""
     folder = maker.folder / "folder"
-    wanted = folder / "places-wanted.csv"
-    counts.test("places are wanted beside the name that is given", wanted.exists())
-    places = maker.folder / "all.csv"
-    unfilled = wanted.read_text()
-    names = [line.partition(",")[0] for line in unfilled.splitlines()[1:]]
-    places.write_text(
-        "tiploc,name,latitude,longitude\n" + "".join(f"{name},,51,-.5\n" for name in names)
+    wanted = folder / "wanted.csv"
+    counts.same(
+        "no list is written unasked", ["link.zip"], [path.name for path in folder.iterdir()]
     )
-    renamed = maker.folder / "renamed.csv"
-    renamed.write_text(unfilled.replace(",,", ",51,-.5"))
-    done = maker.run("--places", renamed, "-o", "renamed.zip", special)
-    counts.same("a list that is filled in and renamed", 0, done.returncode)
-    (maker.folder / "renamed.zip").unlink()
+    words = ("-o", "folder/feed.zip", "--places-wanted", "folder/wanted.csv")
+    maker.run(*words, special)
+    text = wanted.read_text()
+    for name, older in UNFILLED.items():
+        wanted.write_text(older)
+        done = maker.run(*words, special)
+        counts.same(f"a list over {name}", (1, text), (done.returncode, wanted.read_text()))
+    # the same list of next night's extract, in which a place has another name
+    renamed = maker.folder / "next.cif"
+    renamed.write_text(special.read_text().replace("OMEGA   ", "OMEGB   "))
+    done = maker.run(*words, renamed)
+    counts.same("a list over that of another extract", 1, done.returncode)
+    counts.test("the list of another extract", "\nOMEGB," in wanted.read_text(), wanted.read_text())
     renamed.unlink()
-    check_filled(counts, maker, special, places)
-    check_place_of_wanted(counts, maker, special, unfilled)
-    named = maker.folder / "named.csv"
-    named.write_text(places.read_text().replace(",,", ",Another name,"))
-    for text in unfilled, unfilled + "\n", unfilled.replace("\n", "\r\n"):
-        for given in places, named:
-            wanted.write_bytes(text.encode())
-            done = maker.run("-o", "folder/feed.zip", "--places", given, special)
-            counts.same("no place is wanted", (0, False), (done.returncode, wanted.exists()))
+    filled = maker.folder / "filled.csv"
+    filled.write_text(text.replace(",,", ",51,-.5"))
+    done = maker.run(*words, "--places", filled, special)
+    counts.same("no place is wanted", (0, LIST_HEADING), (done.returncode, wanted.read_text()))
+    counts.test("no place is wanted, told", "coordinates" not in done.stderr, done.stderr)
+    filled.unlink()
+    check_filled(counts, maker, special)
     shutil.rmtree(folder)
-    for name in "all.csv", "named.csv", "target.zip":
-        (maker.folder / name).unlink()
+    (maker.folder / "target.zip").unlink()
 
 
 def check_pipes(counts: Counts, maker: Maker, special: Path) -> None:
@@ -326,7 +313,7 @@ def check_pipes(counts: Counts, maker: Maker, special: Path) -> None:
     feed = maker.folder / "feed.zip"
     for name in "-", "/dev/stdin":
         feed.unlink()
-        words: List[Word] = [COMPANIONS / "cif-gtfs", "--cif", maker.cif, "-o", feed, name]
+        words: List[Word] = [PROGRAMS / "cif-gtfs", "--cif", maker.cif, "-o", feed, name]
         done = subprocess.run(
             words, input=special.read_bytes(), capture_output=True, cwd=maker.folder, check=False
         )
@@ -338,17 +325,13 @@ def check_pipes(counts: Counts, maker: Maker, special: Path) -> None:
             }
         counts.test(f"an extract from {name}", want == got)
     feed.unlink()
-    (maker.folder / "places-wanted.csv").unlink()
 
 
-def check_hints(counts: Counts, maker: Maker, special: Path) -> None:
+def check_hints(counts: Counts, maker: Maker) -> None:
     """What cif says of an input that isn't an extract helps."""
-    packed, update = maker.folder / "packed.gz", EXAMPLES / "update.cif"
-    packed.write_bytes(gzip.compress(special.read_bytes()))
     for path, hint in (
-        (packed, "decompress it"),
-        (EXAMPLES / "published.cif", "cif prepare"),
-        (update, "cif update"),
+        (EXAMPLES / "published.cif", "--holidays FILE gives"),
+        (EXAMPLES / "update.cif", "cif update"),
     ):
         done = maker.run(path)
         counts.test(
@@ -369,7 +352,7 @@ def check_space(counts: Counts, maker: Maker, special: Path) -> None:
         limited,
         "sh",
         temporary,
-        COMPANIONS / "cif-gtfs",
+        PROGRAMS / "cif-gtfs",
         "--cif",
         maker.cif,
         special,
@@ -491,7 +474,7 @@ def check_own_input(counts: Counts, maker: Maker, special: Path) -> None:
     told = f"cif-gtfs: {extract} would take the place of an input: rename one of them\n"
     for option in "-o", "--trips":
         for name in "-", "/dev/stdin":
-            words: List[Word] = [COMPANIONS / "cif-gtfs", "--cif", maker.cif]
+            words: List[Word] = [PROGRAMS / "cif-gtfs", "--cif", maker.cif]
             words += [option, "own.cif", name]
             with open(extract, "rb") as stdin:
                 done = subprocess.run(
@@ -518,9 +501,9 @@ def check_words(counts: Counts, maker: Maker, special: Path) -> None:
     ]
     for words in calls:
         refused(counts, maker, f"the words {words}", 2, None, *words)
-    wanted = maker.folder / "places-wanted.csv"
-    wanted.write_text("tiploc,name,latitude,longitude\n")
-    calls = [("-o", special, special), ("-o", "gtfs.zip", "--places", wanted, special)]
+    wanted = maker.folder / "wanted.csv"
+    wanted.write_text(LIST_HEADING)
+    calls = [("-o", special, special), ("--places-wanted", wanted, "--places", wanted, special)]
     for words in calls:
         refused(counts, maker, f"an output in the place of an input, {words[1]}", 2, None, *words)
     wanted.unlink()
@@ -589,8 +572,7 @@ def check_names(counts: Counts, maker: Maker, special: Path) -> None:
     done = maker.run("-o", longest, special)
     counts.same("the longest name, status", 1, done.returncode)
     counts.test("the longest name", zipfile.is_zipfile(longest))
-    for path in longest, maker.folder / "places-wanted.csv":
-        path.unlink(missing_ok=True)
+    longest.unlink(missing_ok=True)
     told = [f"cif-gtfs: {longest}a: File name too long"]
     refused(counts, maker, "a longer name", 4, told, "-o", f"{longest}a", special)
     told = ["cif-gtfs: '': No such file or directory"]
@@ -637,7 +619,7 @@ def check_signals(counts: Counts, maker: Maker, special: Path) -> None:
         words: List[Word] = [
             "env",
             "--default-signal",
-            COMPANIONS / "cif-gtfs",
+            PROGRAMS / "cif-gtfs",
             "--cif",
             failing.cif,
             special,
@@ -660,7 +642,7 @@ def check_signals(counts: Counts, maker: Maker, special: Path) -> None:
 def check_terminal(counts: Counts, maker: Maker, special: Path) -> None:
     """On a terminal it tells how far it is, and ends with a clear line."""
     ours, theirs = pty.openpty()
-    words: List[Word] = [COMPANIONS / "cif-gtfs", "--cif", maker.cif, special]
+    words: List[Word] = [PROGRAMS / "cif-gtfs", "--cif", maker.cif, special]
     process = subprocess.Popen(words, cwd=maker.folder, stderr=theirs)
     os.close(theirs)
     told = b""
@@ -790,9 +772,10 @@ def check_blocks(counts: Counts) -> None:
         [],
     ]
     for wanted in numbers:
-        texts = {
-            b"%d" % number: {b"A", b"none"} if number % 3 else {b"A", b"B"} for number in wanted
-        }
+        # of some schedules many texts are wanted
+        many = {b"A", *(b"none%d" % each for each in range(20))}
+        kinds = ({b"A", b"B"}, {b"A", b"none"}, many)
+        texts = {b"%d" % number: kinds[number % 3] for number in wanted}
         cells = ((row, row.split(b"\t")) for row in rows)
         want = [row for row, cell in cells if cell[3] in texts.get(cell[0], ())]
         for size in (1, 7, 16, 40, 100, 1000, 10**6):
@@ -807,48 +790,45 @@ def padded(*lines: str) -> List[bytes]:
     return [line.ljust(80).encode() + b"\n" for line in lines]
 
 
-def check_part(counts: Counts) -> None:
-    """An extract of some trains has what stands before the schedules, their lines and the end."""
-    head = padded("HDTPS", "TIBSALPHA", "AANA00001")
-    schedules = [
-        padded(f"BSN{uid}", *["LOSSS", *["LISSS"] * calls, "LTSSS"])
-        for uid, calls in (
-            ("A00001", 3),
-            ("B00002", 0),
-            ("A00001", 1),
-            ("      ", 2),
-            ("C00003", 9),
+# Runs cif-gtfs with parts of few rows.
+IN_SMALL_PARTS = """\
+import sys
+sys.path[0] = sys.argv.pop(1)
+from cif_timetable.gtfs import command_line, parts
+parts.BLOCK = 20_000
+sys.exit(command_line.main())
+"""
+
+
+def check_processes(counts: Counts, maker: Maker) -> None:
+    """Any number of processes makes the same zip, to the byte."""
+    extract = maker.folder / "many.cif"
+    extract.write_bytes(generated.extract(random.Random(SEED), SCHEDULES))
+    found = []
+    for number in 1, 2, 3:
+        words: List[Word] = ["--processes", str(number), "-o", "many.zip", "--trips", "many.csv"]
+        call: List[Word] = [
+            sys.executable,
+            "-B",
+            "-c",
+            IN_SMALL_PARTS,
+            PACKAGES,
+            "--cif",
+            maker.cif,
+        ]
+        done = subprocess.run(
+            [*call, *words, extract], cwd=maker.folder, capture_output=True, check=False
         )
-    ]
-    end = padded("ZZ")
-    lines = [*head, *(line for schedule in schedules for line in schedule), *end]
-    for uids in (b"A00001", b"C00003"), (b"      ",), (b"B00002", b"C00003"), (b"BSN   ",), ():
-        wanted = [schedule for schedule in schedules if schedule[0][3:9] in uids]
-        want = [*head, *(line for schedule in wanted for line in schedule), *end]
-        for size in (1, 81, 100, 300, 1000, 10**6):
-            part = io.BytesIO()
-            found = write_part(io.BytesIO(b"".join(lines)), uids, part, size)
-            got = part.getvalue().splitlines(keepends=True)
-            counts.same(f"the part of {uids} in blocks of {size}", (True, want), (found, got))
-        for number, line in enumerate(lines):
-            other = [*lines[:number], line[:-1] + b"\r\n", *lines[number + 1 :]]
-            found = write_part(io.BytesIO(b"".join(other)), uids, io.BytesIO(), 300)
-            counts.same(f"line {number} has another length", False, found)
-
-
-def check_few(counts: Counts, maker: Maker) -> None:
-    """Where few trains have associations their calls are read by themselves, and the feed is that
-    of the same extract with lines of two lengths, of which all calls are read."""
-    lines = generated.extract(random.Random(SEED), SCHEDULES).splitlines(keepends=True)
-    associations = [line for line in lines if line.startswith(b"AA")]
-    left_out = set(associations[ASSOCIATIONS:])
-    few, whole = maker.folder / "few.cif", maker.folder / "whole.cif"
-    few.write_bytes(b"".join(line for line in lines if line not in left_out))
-    whole.write_bytes(few.read_bytes().replace(b"\n", b"\r\n", 1))
-    (got, feed), (want, wanted) = maker.feed(few), maker.feed(whole)
-    counts.test("a feed of few associations", feed == wanted)
-    counts.test("it has linked trips", feed["transfers"].count("\n") > 1, feed["transfers"])
-    counts.same("what a feed of few associations leaves out", want.stderr, got.stderr)
+        files = [maker.folder / name for name in ("many.zip", "many.csv")]
+        found.append((done.returncode, done.stderr, *(file.read_bytes() for file in files)))
+    for each in found[1:]:
+        counts.test("the zip of several processes", each == found[0], [each[:2], found[0][:2]])
+    for word in "0", "65", "x", "-1":
+        done_badly = maker.run("--processes", word, extract)
+        counts.same(f"{word} processes", 2, done_badly.returncode)
+    extract.unlink()
+    for file in files:
+        file.unlink()
 
 
 # A train that divides at BETA, and its portion. Trains whose calls are far more than a pipe holds come after them.
@@ -884,9 +864,8 @@ def check_rest(counts: Counts, maker: Maker) -> None:
     long = "".join(LONG.format(number=n, calls=PASSING * PASSINGS) for n in range(LONG_TRAINS))
     extract = maker.folder / "long.cif"
     extract.write_bytes(b"".join(padded(*(DIVIDING + long + "ZZ").splitlines())))
-    maker.clear()
     done = maker.run(extract)
-    wanted = ["cif-gtfs: places without coordinates: 2, listed in places-wanted.csv"]
+    wanted = ["cif-gtfs: stations without coordinates: 2; --places-wanted FILE lists them"]
     counts.same(
         "calls after linked trains", (1, wanted), (done.returncode, done.stderr.splitlines())
     )
@@ -903,7 +882,7 @@ def check(counts: Counts, maker: Maker, special: Path) -> None:
     check_wanted(counts, maker, special)
     check_pipes(counts, maker, special)
     check_failures(counts, maker, special)
-    check_hints(counts, maker, special)
+    check_hints(counts, maker)
     check_space(counts, maker, special)
     check_publisher(counts, maker, special)
     check_addresses(counts)
@@ -915,6 +894,5 @@ def check(counts: Counts, maker: Maker, special: Path) -> None:
     check_again(counts, maker, special)
     check_collision(counts)
     check_blocks(counts)
-    check_part(counts)
-    check_few(counts, maker)
+    check_processes(counts, maker)
     check_rest(counts, maker)

@@ -1,4 +1,4 @@
-"""The files that cif-gtfs-csv makes of made-up public ones, whose layouts are those of companions/cif_gtfs_csv."""
+"""The files that cif-gtfs-csv makes of made-up public ones, whose layouts are those of python/cif_timetable/public_files."""
 from __future__ import annotations
 
 import csv
@@ -7,7 +7,7 @@ from math import degrees
 from pathlib import Path
 from typing import Dict, Optional, Tuple, Union
 
-from cif_gtfs_csv.grid import latitude_and_longitude, on_airy
+from cif_timetable.public_files.grid import latitude_and_longitude, on_airy
 
 from .checks import Counts, Maker
 
@@ -277,7 +277,6 @@ def check_taken(counts: Counts, maker: Maker, outputs: Dict[str, str]) -> None:
         (maker.folder / f"{kind}.csv").write_text(text)
         options.append((kind.partition("-")[2], f"{kind}.csv"))
     example = Path(__file__).resolve().parents[2] / "examples" / "timetable.cif"
-    maker.clear()
     for name, path in options:
         done = maker.run(f"--{name}", path, example)
         counts.test(

@@ -5,14 +5,14 @@ import re
 import subprocess
 from typing import Dict, List, Set
 
-from .checks import COMPANIONS, TOP, Counts
+from .checks import PROGRAMS, TOP, Counts
 
 WIDTH = 80
-PROGRAMS = ("cif-gtfs", "cif-gtfs-csv")
+NAMES = ("cif-gtfs", "cif-gtfs-csv")
 
 # What bash offers behind these words: words, or `files`.
 LINES: Dict[str, List[str]] = {
-    "cif-gtfs --pl": ["--places"],
+    "cif-gtfs --pl": ["--places", "--places-wanted"],
     "cif-gtfs --places ": ["files"],
     "cif-gtfs -o ": ["files"],
     "cif-gtfs --from ": [],
@@ -34,7 +34,7 @@ printf '%s\\n' "${COMPREPLY[@]}"
 
 def help_of(name: str) -> str:
     return subprocess.run(
-        [COMPANIONS / name, "--help"], capture_output=True, check=True, text=True
+        [PROGRAMS / name, "--help"], capture_output=True, check=True, text=True
     ).stdout
 
 
@@ -84,7 +84,7 @@ def completion(name: str) -> str:
 
 def check(counts: Counts) -> None:
     page = (TOP / "man" / "cif-gtfs.1").read_text()
-    for name in PROGRAMS:
+    for name in NAMES:
         text = help_of(name)
         counts.test(
             f"{name} --help, width", all(len(line) <= WIDTH for line in text.splitlines()), text

@@ -494,6 +494,145 @@ def check_windows(counts: Counts, maker: Maker) -> None:
     counts.same("the other way round", ["Runs also on Fri 26 June"], page.words())
 
 
+def check_reversal(counts: Counts, maker: Maker) -> None:
+    """A train that calls at Beta, reverses at Gamma, and calls at Beta again."""
+    names = "ALPHA", "BETA", "GAMMA", "BETA", "DELTA"
+    minutes = 600, 620, 640, 660, 680
+    calls = tuple(Call(name, now, now + 1, "5") for name, now in zip(names, minutes))
+    passing = with_call(calls, 1, passes=True, leaves=620, platform="")
+    for name, before, after, words in (
+        ("passes once", calls, passing, "Calls less often at Beta"),
+        ("passes no more", passing, calls, "Calls more often at Beta"),
+        ("isn't there once", calls, calls[:1] + calls[2:], "Calls less often at Beta"),
+        (
+            "isn't there at all",
+            calls,
+            calls[:1] + calls[2:3] + calls[4:],
+            "No longer calls at Beta",
+        ),
+        ("is there once more", calls[:1] + calls[2:], calls, "Calls more often at Beta"),
+        ("is there later", calls[:3] + calls[4:], calls[:1] + calls[2:], "Calls in another order"),
+    ):
+        sides = [
+            write(maker, f"reversal-{side}.cif", extract([replace(TRAIN, calls=each)]))
+            for side, each in (("before", before), ("after", after))
+        ]
+        want = [f"{words} on Mondays to Fridays"]
+        counts.same(f"a train that reverses {name}, in words", want, maker.page(*sides).words())
+
+
+def check_renumbered(counts: Counts, maker: Maker) -> None:
+    """A train under another UID with another power type on some dates is one train."""
+    other = replace(TRAIN, uid="B00001")
+    gone = replace(TRAIN, first=june(29), last=june(30))
+    changed = replace(overlay(other, june(15), june(19), USUAL), power="BMU")
+    old = maker.folder / "before.cif"
+    new = write(maker, "after.cif", extract([gone, other, changed], associations=()))
+    page = maker.page(old, new)
+    want = [
+        "Renumbered on 15 dates from 1 to 26 June",
+        "Renumbered; power type BMU for EMU from Mon 15 to Fri 19 June",
+    ]
+    counts.same("another UID and power type, in words", want, page.words())
+    got = {kind: page.figures[kind] for kind in ("numbers", "data", "runs", "cancelled")}
+    want_figures = {"numbers": 1, "data": 0, "runs": 0, "cancelled": 0}
+    counts.same("another UID and power type, numbers", want_figures, got)
+    page = maker.page(new, old)
+    counts.same("the other way round, in words", want[:1], page.words()[:1])
+
+
+def check_counts_in_words(counts: Counts, maker: Maker) -> None:
+    """One train, and several dates with the most trains that differ."""
+    window = june(1), june(28)
+    old = Extract("DFTEST1", "2905262130", window, PLACES, [TRAIN])
+    two = Extract(
+        "DFTEST1",
+        "2905262130",
+        window,
+        PLACES,
+        [TRAIN, *(cancelled(TRAIN, june(d)) for d in (8, 9))],
+    )
+    paths = [
+        write(maker, f"one-{number}.cif", each.text()) for number, each in enumerate((old, two))
+    ]
+    page = maker.page(*paths)
+    for text in (
+        "There is 1 train in all, as many as before.",
+        "at most 1, on Mon 8 and Tue 9 June.",
+    ):
+        counts.test(f"{text} in words", text in page.text, page.text[:1500])
+
+
+def check_rows(counts: Counts, maker: Maker) -> None:
+    """Names and formulas in the CSV file."""
+    old = maker.folder / "before.cif"
+    renamed = extract(places={"BETA": ("BTX", "BETA TOWN")})
+    page = maker.page(old, write(maker, "after.cif", renamed))
+    names = [row["location_name"] for row in page.rows if row["subject"] == "place"]
+    counts.same("the name of a place in the CSV file", ["Beta Town"], names)
+    operators = write(maker, "operators.csv", "operator_code,name,url\nSN,@SUM(A1),\n")
+    places = write(
+        maker,
+        "places.csv",
+        "tiploc,name,latitude,longitude\nALPHA,-1+2,,\nDELTA,+1,,\n",
+    )
+    new = write(maker, "after.cif", extract([replace(TRAIN, identity="=1+1")]))
+    [row] = maker.page("--operators", operators, "--places", places, old, new).rows
+    fields = "identity", "operator", "origin_name", "destination_name", "change"
+    want = ["'=1+1", "'@SUM(A1)", "'-1+2", "'+1", "renumbered: =1+1 for 1A01"]
+    counts.same("cells that would be formulas", want, [row[field] for field in fields])
+
+
+def check_long_names(counts: Counts, maker: Maker) -> None:
+    """Very long names are shortened, and the page isn't larger than it may be, whatever is long."""
+    name = "N" * 60_000
+    words: List[Word] = [
+        "--places",
+        write(
+            maker,
+            "places.csv",
+            "tiploc,name,latitude,longitude\n" + "".join(f"{place},{name},,\n" for place in PLACES),
+        ),
+    ]
+    words += [
+        "--operators",
+        write(maker, "operators.csv", f"operator_code,name,url\nSN,{name},\nGX,{name},\n"),
+    ]
+    old, new = maker.folder / "before.cif", write(
+        maker,
+        "after.cif",
+        extract([replace(each, calls=moved(each.calls, 5)) for each in TRAINS]),
+    )
+    page = maker.page(*words, old, new)
+    size = len(page.markup.encode())
+    counts.test("a page with long names, its size", size < 100_000, size)
+    longest = max(map(len, re.findall("N+…?", page.markup)))
+    counts.same("a page with long names, the longest", 100, longest)
+    counts.same("a page with long names, its trains", len(TRAINS), len(page.trains()))
+
+
+def check_long_train(counts: Counts, maker: Maker) -> None:
+    """A train for which there is no room on the page doesn't keep others from it, neither those
+    with the same change nor those with another one."""
+    between = [Call(("BETA", "GAMMA")[number % 2], 601, 601) for number in range(3000)]
+    train = replace(OTHER, uid="A00001", calls=(USUAL[0], *between, USUAL[-1]))
+    trains = [replace(train, uid="A00000"), train, replace(OTHER, uid="A00003")]
+    # two have the same change, and two have others
+    changed = [replace(each, power=power) for each, power in zip(trains, ("HST", "BMU", "BMU"))]
+    changed.append(replace(OTHER, power="DMU"))
+    sides = [
+        write(maker, f"long-{number}.cif", extract(each))
+        for number, each in enumerate((trains, changed))
+    ]
+    page = maker.small_page(200_000, *sides)
+    size = len(page.markup.encode())
+    counts.test("a train of 3,000 calls, the size of the page", size <= 200_000, size)
+    uids = [each.uid for each in page.trains()]
+    counts.same("a train of 3,000 calls, the others", ["A00003", "A00002"], uids)
+    rest = "2 changed trains of 4 aren’t on this page"
+    counts.test("a train of 3,000 calls, in words", rest in page.text, page.text[-300:])
+
+
 def check_years(counts: Counts, maker: Maker) -> None:
     """Where the window has several years, dates have theirs."""
     window = date(2026, 12, 28), date(2027, 1, 10)
@@ -557,6 +696,12 @@ def check(counts: Counts, maker: Maker) -> None:
     check_names(counts, maker)
     check_same(counts, maker)
     check_windows(counts, maker)
+    check_reversal(counts, maker)
+    check_renumbered(counts, maker)
+    check_counts_in_words(counts, maker)
+    check_rows(counts, maker)
+    check_long_names(counts, maker)
+    check_long_train(counts, maker)
     check_years(counts, maker)
     check_order(counts, maker)
     check_most(counts, maker)

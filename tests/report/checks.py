@@ -6,7 +6,7 @@ import sys
 from pathlib import Path
 from typing import Callable, List, Mapping, Optional, TypeVar
 
-from gtfs.checks import COMPANIONS, Counts, Word
+from gtfs.checks import PACKAGES, PROGRAMS, Counts, Word
 
 from .definition import Expected
 from .page import Page, bars, heights
@@ -32,7 +32,7 @@ class Maker:
     ) -> subprocess.CompletedProcess[str]:
         """How a run ends that has this text as its standard input, and calls a function first."""
         return subprocess.run(
-            [COMPANIONS / "cif-report", "--cif", self.cif, *words],
+            [PROGRAMS / "cif-report", "--cif", self.cif, *words],
             cwd=self.folder,
             input=stdin,
             capture_output=True,
@@ -44,7 +44,7 @@ class Maker:
     def run_bytes(self, stdin: bytes, *words: Word) -> subprocess.CompletedProcess[bytes]:
         """The same in bytes."""
         return subprocess.run(
-            [COMPANIONS / "cif-report", "--cif", self.cif, *words],
+            [PROGRAMS / "cif-report", "--cif", self.cif, *words],
             cwd=self.folder,
             input=stdin,
             capture_output=True,
@@ -53,7 +53,7 @@ class Maker:
 
     def small_page(self, most_bytes: int, *words: Word) -> Page:
         """What a page says that may have so many bytes only."""
-        program = f"import sys; sys.path.insert(0, {str(COMPANIONS)!r}); from cif_report import page, command_line;"
+        program = f"import sys; sys.path.insert(0, {str(PACKAGES)!r}); from cif_timetable.report import page, command_line;"
         program += f" page.MOST_BYTES = {most_bytes}; sys.exit(command_line.main())"
         call: List[Word] = [
             sys.executable,
@@ -270,9 +270,10 @@ def check_others(counts: Counts, name: str, expected: Expected, page: Page) -> N
 
 
 def check_size(counts: Counts, maker: Maker, expected: Expected, *words: Word) -> None:
-    """A page that would have too many bytes has fewer trains, and says so; the CSV file has all."""
+    """A page that would have too many bytes, also by its title, has fewer trains, and says so; the
+    CSV file has all."""
     most = 400_000
-    page = maker.small_page(most, *words)
+    page = maker.small_page(most, "--title", "&" * 10_000, *words)
     size = len(page.markup.encode())
     counts.test("a small page, its size", most * 0.8 < size <= most, size)
     left_out = len(expected.trains) - len(page.trains())

@@ -27,6 +27,10 @@ def dates_of(row: Row, dates: List[date]) -> List[date]:
     return [day for day in dates if first <= day <= last and row["days_run"][day.weekday()] == "1"]
 
 
+# The calls and the changes of a body.
+Journey = Tuple[Tuple[str, ...], ...]
+
+
 class Body:
     """What runs: the row of `schedules`, and the rows of `calls` and `changes`."""
 
@@ -34,7 +38,7 @@ class Body:
         self.schedule = schedule
         self.calls, self.changes = calls, changes
         fields = [schedule[name] for name in ("identity", *TRAIN_FIELDS)]
-        self.journey = tuple(
+        self.journey: Journey = tuple(
             tuple(list(row.values())[1:]) for rows in (calls, changes) for row in rows
         )
         self.whole = (tuple(fields), self.journey)
@@ -108,13 +112,18 @@ def public(row: Row) -> Tuple[str, ...]:
 
 def pairs_of(old: Body, new: Body) -> List[Tuple[Row, Row]]:
     """The calls at places where both call, or both pass."""
-    keys = [key for key, _ in numbered(old.calls)]
-    found, done = [], 0
-    for key, row in numbered(new.calls):
+    before, after = list(old.calls), list(new.calls)
+    found = []
+    # from the start, and then from the end, as long as both are at the same places
+    for end in 0, -1:
+        while before and after and before[end]["location"] == after[end]["location"]:
+            found.append((before.pop(end), after.pop(end)))
+    keys, done = [key for key, _ in numbered(before)], 0
+    for key, row in numbered(after):
         # those whose order is another one stand alone
         if key in keys[done:]:
             done = keys.index(key) + 1
-            found.append((old.calls[done - 1], row))
+            found.append((before[done - 1], row))
     return [(was, now) for was, now in found if bool(was["pass"]) == bool(now["pass"])]
 
 
@@ -154,28 +163,30 @@ class Expected:
         self.dates = [first + timedelta(days=number) for number in range((last - first).days + 1)]
         self.old, self.new = (Extract(cif, path, self.dates) for path in (old, new))
 
-    def alone(self, extract: Extract, other: Extract) -> DefaultDict[Tuple[str, Body], Set[date]]:
-        """By train and body, the dates on which the other extract has no body."""
-        found: DefaultDict[Tuple[str, Body], Set[date]] = defaultdict(set)
+    def alone(
+        self, extract: Extract, other: Extract
+    ) -> DefaultDict[Tuple[str, Journey], Dict[date, Body]]:
+        """By train and journey, the bodies of the dates on which the other extract has none."""
+        found: DefaultDict[Tuple[str, Journey], Dict[date, Body]] = defaultdict(dict)
         for uid, bodies in extract.bodies.items():
             for day, body in bodies.items():
                 if day not in other.bodies.get(uid, {}):
-                    found[uid, body].add(day)
+                    found[uid, body.journey][day] = body
         return found
 
     @cached_property
-    def renumbered(self) -> List[Tuple[str, str, Set[date], Body, Body]]:
-        """The trains that have another UID: old UID, new UID, and the dates."""
+    def renumbered(self) -> List[Tuple[str, str, Dict[date, Body], Dict[date, Body]]]:
+        """The trains that have another UID: old UID, new UID, and the bodies of each date."""
         lost, got = self.alone(self.old, self.new), self.alone(self.new, self.old)
         free = defaultdict(list)
-        for uid, body in sorted(got, key=lambda key: key[0]):
-            free[body.journey, frozenset(got[uid, body])].append((uid, body))
+        for uid, journey in sorted(got, key=lambda key: key[0]):
+            free[journey, frozenset(got[uid, journey])].append(uid)
         found = []
-        for uid, body in sorted(lost, key=lambda key: key[0]):
-            others = free[body.journey, frozenset(lost[uid, body])]
+        for uid, journey in sorted(lost, key=lambda key: key[0]):
+            others = free[journey, frozenset(lost[uid, journey])]
             if others:
-                other, new_body = others.pop(0)
-                found.append((uid, other, lost[uid, body], body, new_body))
+                other = others.pop(0)
+                found.append((uid, other, lost[uid, journey], got[other, journey]))
         return found
 
     @cached_property
@@ -184,13 +195,14 @@ class Expected:
         found: DefaultDict[Tuple[str, str], Set[date]] = defaultdict(set)
         gone: DefaultDict[str, Set[date]] = defaultdict(set)
         come: DefaultDict[str, Set[date]] = defaultdict(set)
-        for uid, other, days, body, new_body in self.renumbered:
-            gone[uid] |= days
-            come[other] |= days
-            found[uid, "numbers"] |= days
-            if body != new_body:
-                for kind in kinds_of(body, new_body):
-                    found[uid, kind] |= days
+        for uid, other, lost, got in self.renumbered:
+            gone[uid] |= set(lost)
+            come[other] |= set(got)
+            found[uid, "numbers"] |= set(lost)
+            for day, body in lost.items():
+                if body != got[day]:
+                    for kind in kinds_of(body, got[day]):
+                        found[uid, kind].add(day)
         for uid in sorted({*self.old.bodies, *self.new.bodies}):
             old, new = (extract.bodies.get(uid, {}) for extract in (self.old, self.new))
             for day in {*old, *new}:

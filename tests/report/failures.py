@@ -8,7 +8,7 @@ import time
 from pathlib import Path
 from typing import Callable, Dict, List, Optional
 
-from gtfs.checks import COMPANIONS, Counts, Word, interrupted
+from gtfs.checks import PROGRAMS, Counts, Word, interrupted
 from gtfs.failures import FAILING
 
 from .by_hand import extract, june
@@ -58,7 +58,7 @@ def check_outputs(counts: Counts, maker: Maker, old: Path, new: Path) -> None:
     counts.same(
         "an extract from standard input", (0, b"", True), (piped.returncode, piped.stderr, same)
     )
-    shell = f"cat {old} | {COMPANIONS / 'cif-report'} --cif {maker.cif} -o other.htm - <(cat {new})"
+    shell = f"cat {old} | {PROGRAMS / 'cif-report'} --cif {maker.cif} -o other.htm - <(cat {new})"
     piped = subprocess.run(
         ["bash", "-c", shell], cwd=maker.folder, capture_output=True, check=False
     )
@@ -72,7 +72,7 @@ def check_outputs(counts: Counts, maker: Maker, old: Path, new: Path) -> None:
     refused(counts, maker, "an input as output", 2, "place of an input", "-o", old, old, new)
     with open(new, "rb") as stdin:
         done = subprocess.run(
-            [COMPANIONS / "cif-report", "--cif", maker.cif, "-o", new, old, "-"],
+            [PROGRAMS / "cif-report", "--cif", maker.cif, "-o", new, old, "-"],
             cwd=maker.folder,
             stdin=stdin,
             capture_output=True,
@@ -188,7 +188,7 @@ def check_signals(counts: Counts, maker: Maker, old: Path, new: Path) -> None:
     """Interrupted, it leaves nothing but the older files."""
     failing = failing_cif(maker, "schedules", "touch reached; exec sleep 60")
     before, reached = files_in(maker.folder), maker.folder / "reached"
-    words: List[Word] = [COMPANIONS / "cif-report", "--cif", failing.cif, old, new]
+    words: List[Word] = [PROGRAMS / "cif-report", "--cif", failing.cif, old, new]
 
     def not_ignored() -> None:
         # a background job of a shell is started with some of them ignored

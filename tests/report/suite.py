@@ -10,7 +10,7 @@ from pathlib import Path
 sys.dont_write_bytecode = True
 HERE = Path(__file__).resolve().parent
 TOP = HERE.parents[1]
-sys.path[:1] = [str(HERE.parent), str(TOP / "companions")]
+sys.path[:1] = [str(HERE.parent), str(TOP / "python")]
 
 from gtfs import generated
 from gtfs.checks import Counts

@@ -60,7 +60,29 @@ LOGAMMA   0900 0900          TB
 LTALPHA   1000 1000      TF
 ZZ
 """
-EXTRACT = "".join(line.ljust(80) + "\n" for line in LINES.strip().split("\n"))
+
+
+def text_of(lines: str) -> str:
+    return "".join(line.ljust(80) + "\n" for line in lines.strip().split("\n"))
+
+
+EXTRACT = text_of(LINES)
+
+# Two trains of a day: one from the place whose TIPLOC is blank, and one to it.
+BLANK = text_of(
+    r"""
+HDTPS.UTEST01.PD2601040401262130DFTEST1       FA050126050126
+TI       00890500ABLANK HALT                032010000BLKBLANK
+TIALPHA  00890501AALPHA                     032010000ALPALPHA
+BSNB000012601052601051000000 POO2B01    122104000 EMU    090      B            P
+LO        0900 09001         TB
+LTALPHA   1000 10002     TF
+BSNB000022601052601051000000 POO2B02    122104000 EMU    090      B            P
+LOALPHA   1100 11003         TB
+LT        1200 12004     TF
+ZZ
+"""
+)
 
 # Queries by what they are about, each with its rows.
 Queries = Dict[str, Tuple[str, List[SqlRow]]]
@@ -142,6 +164,21 @@ QUERIES: Queries = {
         [("TPS.UTEST01.PD260104", "DFTEST1", "2026-01-04T21:30", "2026-01-05", "2026-01-11")],
     ),
 }
+BLANK_QUERIES: Queries = {
+    "departures from the blank TIPLOC": (
+        "SELECT station, time, uid, destination_name FROM departures WHERE crs = 'BLK'",
+        [("Blank Halt", "09:00:00", "B00001", "Alpha")],
+    ),
+    "arrivals at the blank TIPLOC": (
+        "SELECT station, time, uid, origin_name FROM arrivals WHERE crs = 'BLK'",
+        [("Blank Halt", "12:00:00", "B00002", "Alpha")],
+    ),
+    "trains to and from the blank TIPLOC": (
+        "SELECT uid, destination_name FROM departures WHERE crs = 'ALP' UNION ALL"
+        " SELECT uid, origin_name FROM arrivals WHERE crs = 'ALP' ORDER BY uid",
+        [("B00001", "Blank Halt"), ("B00002", "Blank Halt")],
+    ),
+}
 EXAMPLE_QUERIES: Queries = {
     "after midnight the date is that of the clock": (
         "SELECT station, time, train_date, uid, destination_name FROM departures"
@@ -162,6 +199,6 @@ def check_queries(
         counts.same(f"{about}, in {name}", want, rows(query))
 
 
-def check(counts: Counts, maker: Maker, special: Path) -> None:
-    for path, queries in (special, QUERIES), (EXAMPLE, EXAMPLE_QUERIES):
+def check(counts: Counts, maker: Maker, special: Path, blank: Path) -> None:
+    for path, queries in (special, QUERIES), (blank, BLANK_QUERIES), (EXAMPLE, EXAMPLE_QUERIES):
         check_queries(counts, queries, partial(sqlite_rows, maker.database(path)), path.name)

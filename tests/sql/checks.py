@@ -8,7 +8,7 @@ from contextlib import closing
 from pathlib import Path
 from typing import Callable, Iterable, List, Optional, TypeVar, Union
 
-from gtfs.checks import COMPANIONS, Counts, Word, first_difference
+from gtfs.checks import PROGRAMS, Counts, Word, first_difference
 from gtfs.definition import seconds_of
 
 from .definition import RENAMED, Expected, SqlRow
@@ -34,7 +34,7 @@ class Maker:
     ) -> subprocess.CompletedProcess[str]:
         """How a run ends that has this text as its standard input, and calls a function first."""
         return subprocess.run(
-            [COMPANIONS / "cif-sql", "--cif", self.cif, *words],
+            [PROGRAMS / "cif-sql", "--cif", self.cif, *words],
             cwd=self.folder,
             input=stdin,
             capture_output=True,
@@ -46,7 +46,7 @@ class Maker:
     def run_bytes(self, stdin: bytes, *words: Word) -> subprocess.CompletedProcess[bytes]:
         """The same in bytes."""
         return subprocess.run(
-            [COMPANIONS / "cif-sql", "--cif", self.cif, *words],
+            [PROGRAMS / "cif-sql", "--cif", self.cif, *words],
             cwd=self.folder,
             input=stdin,
             capture_output=True,

@@ -6,7 +6,7 @@ import re
 import subprocess
 from pathlib import Path
 
-from gtfs.checks import COMPANIONS, TOP, Counts
+from gtfs.checks import PROGRAMS, TOP, Counts
 
 from .by_hand import EXAMPLE
 from .checks import Maker, sqlite_rows
@@ -14,6 +14,10 @@ from .postgres import load, psql
 
 QUESTION = re.compile(r'^\$ sqlite3 timetable\.db "([^"]*)"\n((?:[^`$\n].*\n)*)', re.MULTILINE)
 QUESTIONS = 10
+# The trains of a hub all go to one other station, each day of three weeks. A question has to be answered in a few seconds.
+HUB_TRAINS = 4000
+HUB_HEADER = "HDTPS.UTEST01.PD2601040401262130DFTEST1       FA050126250126"
+HUB_TIME = "5s"
 JOB = TOP / "examples" / "nightly"
 
 # What comes day by day, what is printed, and the moment and the last date of the extract that the database is of then, from the headers
@@ -39,13 +43,42 @@ def check_questions(counts: Counts, maker: Maker) -> None:
         counts.same(f"{query} in PostgreSQL", (answer, ""), (done.stdout, done.stderr))
 
 
+def hub() -> str:
+    """An extract of a hub."""
+    lines = [HUB_HEADER, "TIHUB".ljust(53) + "HHE", "TIFAR".ljust(53) + "VIC"]
+    for number in range(HUB_TRAINS):
+        leaves, arrives = (
+            f"{minute // 60:02}{minute % 60:02}"
+            for minute in (300 + number % 900, 330 + number % 900)
+        )
+        terms = "2601052601251111111 PXX1A23    122104000 DMU    090      B"
+        lines.append(f"BSN{number:06}{terms}".ljust(79) + "P")
+        lines.append(f"LOHUB     {leaves} {leaves}1".ljust(29) + "TB")
+        lines.append(f"LTFAR     {arrives} {arrives}1".ljust(25) + "TF")
+    return "".join(line.ljust(80) + "\n" for line in [*lines, "ZZ"])
+
+
+def check_hub(counts: Counts, maker: Maker) -> None:
+    """The questions of stations in PostgreSQL, where thousands of trains go from one to the other."""
+    path = maker.folder / "hub.cif"
+    path.write_text(hub())
+    load(maker, "--force", path)
+    for query, _ in QUESTION.findall((TOP / "docs" / "SQL.md").read_text()):
+        if "'HHE'" in query:
+            asked = query.replace("2026-06-05", "2026-01-06")
+            done = psql("-A", "-t", "-c", f"SET statement_timeout = '{HUB_TIME}'; {asked}")
+            rows = len(done.stdout.splitlines())
+            counts.same(f"{query} at a hub", (HUB_TRAINS, ""), (rows, done.stderr))
+    path.unlink()
+
+
 def check_job(counts: Counts, cif: Path, folder: Path) -> None:
     """The job prints nothing if all is well, and one line if not; then nothing changes."""
     folder.mkdir()
     programs = folder / "bin"
     programs.mkdir()
     (programs / "cif").symlink_to(cif)
-    (programs / "cif-sql").symlink_to(COMPANIONS / "cif-sql")
+    (programs / "cif-sql").symlink_to(PROGRAMS / "cif-sql")
     (folder / "holidays.txt").write_text((TOP / "examples" / "holidays.txt").read_text())
     for name in {name for name, _, _ in DAYS} - {"cut.cif"}:
         (folder / name).write_bytes((TOP / "examples" / name).read_bytes())

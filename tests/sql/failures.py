@@ -3,17 +3,20 @@ from __future__ import annotations
 
 import hashlib
 import os
+import re
 import resource
+import shutil
 import signal
 import sqlite3
 import subprocess
+import sys
 import threading
 import time
 from contextlib import closing
 from pathlib import Path
 from typing import Callable, Dict, List, Optional, Set, Tuple, Union
 
-from gtfs.checks import COMPANIONS, Counts, Word, interrupted
+from gtfs.checks import PACKAGES, PROGRAMS, Counts, Word, interrupted
 from gtfs.failures import FAILING
 
 from .checks import Maker, sqlite_rows
@@ -26,6 +29,8 @@ NO_MOMENT = ("0401262130", "9999999999")
 # The extract of a database, and how many trains run on all dates.
 TRAINS = "SELECT current_reference, count(*) FROM extract, runs GROUP BY 1"
 KILLS = 12
+# What a terminal acts on.
+CONTROL = re.compile(r"[\x00-\x09\x0b-\x1f\x7f-\x9f]")
 # The processes that write a database.
 WRITERS = 2
 
@@ -80,7 +85,7 @@ def check_names(counts: Counts, maker: Maker, special: Path) -> None:
     refused(counts, maker, "the extract in its place", 2, "place of an input", copy)
     with open(copy, "rb") as stdin:
         done = subprocess.run(
-            [COMPANIONS / "cif-sql", "--cif", maker.cif, "-o", copy, "-"],
+            [PROGRAMS / "cif-sql", "--cif", maker.cif, "-o", copy, "-"],
             cwd=maker.folder,
             stdin=stdin,
             capture_output=True,
@@ -103,7 +108,7 @@ def check_streams(counts: Counts, maker: Maker, special: Path) -> None:
     """What is read and written where standard streams are closed, or files, or full."""
     copy = maker.folder / "-"
     copy.write_bytes(special.read_bytes())
-    call: List[Word] = [COMPANIONS / "cif-sql", "--cif", maker.cif]
+    call: List[Word] = [PROGRAMS / "cif-sql", "--cif", maker.cif]
     read: Dict[str, List[Word]] = {
         "a file called -": ["-o", "made.db", "./-"],
         "standard input from a file": ["-o", "made.db", "/dev/stdin"],
@@ -150,7 +155,7 @@ def check_streams(counts: Counts, maker: Maker, special: Path) -> None:
 
 def check_output(counts: Counts, maker: Maker, special: Path) -> None:
     """Output that can't be written, also where Python is asked to buffer nothing."""
-    call: List[Word] = [COMPANIONS / "cif-sql", "--cif", maker.cif]
+    call: List[Word] = [PROGRAMS / "cif-sql", "--cif", maker.cif]
     whole = len(maker.run("--postgres", special).stdout)
 
     def little_space() -> None:
@@ -237,12 +242,192 @@ def check_replacement(counts: Counts, maker: Maker, special: Path) -> None:
             counts, maker, f"the file {other} in its place", 3, "isn't a database", *words, special
         )
     refused(counts, maker, "a folder in its place", 2, "folder", "-o", ".", special)
-    log = maker.folder / "kept.db-wal"
-    log.write_text("written by somebody")
-    refused(
-        counts, maker, "another program that writes", 4, "kept.db-wal", "--force", *kept, special
+    check_journals(counts, maker, special)
+    check_locked(counts, maker, special)
+    check_damaged(counts, maker, special)
+
+
+# Deletes rows of a database, and dies before they are gone from the file itself.
+DIES = """
+import os, sqlite3, sys
+connection = sqlite3.connect(sys.argv[1], isolation_level=None)
+connection.execute("PRAGMA journal_mode = WAL")
+connection.execute("DELETE FROM public_calls")
+os._exit(0)
+"""
+
+
+# Locks a database until its standard input ends.
+LOCKS = """
+import sqlite3, sys
+connection = sqlite3.connect(sys.argv[1], isolation_level=None)
+connection.execute("BEGIN EXCLUSIVE")
+print(flush=True)
+sys.stdin.read()
+"""
+
+
+def check_journals(counts: Counts, maker: Maker, special: Path) -> None:
+    """What a program hasn't written yet into a database doesn't get into another one in its place."""
+    for suffix in "-wal", "-journal":
+        for name in "kept.db", "gone.db":
+            beside = maker.folder / f"{name}{suffix}"
+            beside.write_text("written by somebody")
+            told = f"{beside.name} is there, of a program that writes, or that has ended early: remove it"
+            refused(counts, maker, beside.name, 4, told, "--force", "-o", name, special)
+            beside.unlink()
+    place = maker.folder / "dead.db"
+    maker.run("-o", place.name, special)
+    subprocess.run([sys.executable, "-c", DIES, place], check=True)
+    place.unlink()
+    refused(counts, maker, "the log of a dead writer", 4, "dead.db-wal", "-o", "dead.db", special)
+    for beside in maker.folder.glob("dead.db-*"):
+        beside.unlink()
+
+
+def check_locked(counts: Counts, maker: Maker, special: Path) -> None:
+    """A database that is locked isn't damaged, and not replaced by force."""
+    words: List[Word] = [sys.executable, "-c", LOCKS, maker.folder / "kept.db"]
+    with subprocess.Popen(words, stdin=subprocess.PIPE, stdout=subprocess.PIPE) as process:
+        assert process.stdin is not None and process.stdout is not None
+        process.stdout.readline()
+        for force in (), ("--force",):
+            told = "kept.db is locked by another program"
+            refused(counts, maker, f"a lock {force}", 4, told, *force, "-o", "kept.db", special)
+        process.stdin.close()
+
+
+def check_damaged(counts: Counts, maker: Maker, special: Path) -> None:
+    """A table of the extract that isn't as it was made. A view without an end isn't read."""
+
+    def little_memory_and_time() -> None:
+        resource.setrlimit(resource.RLIMIT_AS, (1 << 30, 1 << 30))
+        resource.setrlimit(resource.RLIMIT_CPU, (20, 20))
+
+    endless = "WITH RECURSIVE numbers (x) AS (SELECT 1 UNION ALL SELECT x + 1 FROM numbers)"
+    endless += " SELECT '' AS extracted_at, '' AS first_date, '' AS last_date FROM numbers"
+    for name, script in (
+        ("bytes for the moment", "UPDATE extract SET extracted_at = x'00'"),
+        ("a number for a date", "UPDATE extract SET last_date = 20260111.0"),
+        ("two rows", "INSERT INTO extract SELECT * FROM extract"),
+        ("an endless view", f"DROP TABLE extract; CREATE VIEW extract AS {endless}"),
+        ("a view of no row", f"DROP TABLE extract; CREATE VIEW extract AS {endless} WHERE x < 0"),
+    ):
+        maker.run("--force", "-o", "damaged.db", special)
+        with closing(sqlite3.connect(maker.folder / "damaged.db")) as connection:
+            connection.executescript(script)
+        words = ("-o", "damaged.db", special)
+        told = "damaged.db is damaged; --force replaces it"
+        refused(counts, maker, name, 3, told, *words, preexec_fn=little_memory_and_time)
+    (maker.folder / "damaged.db").unlink()
+
+
+def check_endless(counts: Counts, maker: Maker) -> None:
+    """Standard input without an end is refused at its first line, and not copied."""
+
+    def little_space() -> None:
+        resource.setrlimit(resource.RLIMIT_FSIZE, (1 << 24, 1 << 24))
+
+    for shell in "exec cat /dev/zero", "exec yes":
+        with subprocess.Popen(["sh", "-c", shell], stdout=subprocess.PIPE) as source:
+            done = subprocess.run(
+                [PROGRAMS / "cif-sql", "--cif", maker.cif, "-o", "made.db", "-"],
+                cwd=maker.folder,
+                stdin=source.stdout,
+                stderr=subprocess.PIPE,
+                text=True,
+                preexec_fn=little_space,
+                check=False,
+            )
+            source.kill()
+        counts.same(f"{shell}, status", 3, done.returncode)
+        counts.test(f"{shell}, reported", "line 1: BadLength" in done.stderr, done.stderr)
+
+
+def check_escapes(counts: Counts, maker: Maker, special: Path) -> None:
+    """What a terminal would act on isn't printed as it is."""
+    odd = "\x1b[2J\x9b1m\x07"
+    asked: List[List[Word]] = [[odd], ["-o", "made.db", "--places", odd, special], [special, odd]]
+    for words in asked:
+        done = maker.run(*words)
+        counts.test(f"{len(words)} words, reported", "?[2J?1m?" in done.stderr, done.stderr)
+        counts.test(f"{len(words)} words, escapes", not CONTROL.search(done.stderr), done.stderr)
+    done = maker.run("--postgres", "--schema", odd, special)
+    counts.test("a schema, escapes", not CONTROL.search(done.stderr), done.stderr)
+
+
+def with_midnights(count: int) -> str:
+    """An extract of a train with calls after so many midnights."""
+    lines = ["HDTPS.UTEST01.PD2601040401262130DFTEST1       FA050126050126"]
+    lines.append(
+        "BSNM000012601052601051000000 POO2M01    122104000 EMU    090      B".ljust(79) + "P"
     )
-    log.unlink()
+    lines.append("LOALPHA   0900 09001         TB")
+    for _ in range(count - 1):
+        lines.append("LIBETA    0100 0100      01000100         T")
+        lines.append("LIBETA    2300 2300      23002300         T")
+    lines.append("LTGAMMA   0700 0700      TF")
+    return "".join(line.ljust(80) + "\n" for line in [*lines, "ZZ"])
+
+
+def check_midnights(counts: Counts, maker: Maker) -> None:
+    """A train with more midnights than a database has."""
+    path = maker.folder / "midnights.cif"
+    path.write_text(with_midnights(31))
+    counts.same("31 midnights", 0, maker.run("-o", "made.db", path).returncode)
+    rows = sqlite_rows(maker.folder / "made.db", "SELECT count(*), max(date) FROM clock_days")
+    counts.same("31 midnights, the dates", [("32", "2026-02-05")], rows)
+    (maker.folder / "made.db").unlink()
+    path.write_text(with_midnights(32))
+    told = "M00001 has calls after 32 midnights: a database has at most 31 in a train"
+    refused(counts, maker, "32 midnights", 3, told, "-o", "made.db", path)
+    path.unlink()
+
+
+# Fills a database in the background to which nothing can be sent, while the process that fills it lives.
+SENDS = """
+import errno, sys
+from contextlib import contextmanager
+sys.path.insert(0, sys.argv[1])
+from cif_timetable.errors import Failed
+from cif_timetable.sql.background import in_background
+from cif_timetable.sql.schema import Database
+
+class Broken:
+    def __init__(self, process):
+        self.process = process
+    def __getattr__(self, name):
+        return getattr(self.process, name)
+    def send(self, message):
+        raise OSError(errno.EIO, "Input/output error")
+
+@contextmanager
+def opened():
+    yield Database()
+
+try:
+    with in_background([opened]) as [database]:
+        database.process = Broken(database.process)
+        database.fill("days", ("date",), b"2026-01-05")
+except Failed as problem:
+    print(*problem.lines)
+"""
+
+
+def check_sending(counts: Counts) -> None:
+    """If nothing can be sent to a process that lives, the run fails, and doesn't wait for it."""
+    try:
+        done = subprocess.run(
+            [sys.executable, "-B", "-c", SENDS, PACKAGES],
+            capture_output=True,
+            text=True,
+            check=False,
+            timeout=20,
+        )
+        printed = done.stdout + done.stderr
+    except subprocess.TimeoutExpired:
+        printed = "it waits"
+    counts.test("nothing can be sent", "Input/output error" in printed, printed)
 
 
 def failing_cif(maker: Maker, table: str, then: str) -> Maker:
@@ -285,7 +470,7 @@ def check_signals(counts: Counts, maker: Maker, special: Path) -> None:
         # what runs in the background may have interrupts ignored
         "env",
         "--default-signal",
-        COMPANIONS / "cif-sql",
+        PROGRAMS / "cif-sql",
         "--cif",
         failing.cif,
         "--force",
@@ -317,7 +502,7 @@ def check_signals(counts: Counts, maker: Maker, special: Path) -> None:
         if number != signal.SIGKILL:
             counts.same(f"stopped by {name}, what is left", before, left(maker))
     for path in maker.folder.glob(".kept.db.*"):
-        path.unlink()
+        shutil.rmtree(path)
     (maker.folder / "failing-cif").unlink()
 
 
@@ -327,7 +512,7 @@ def writers_of(process: subprocess.Popen[str]) -> List[int]:
     return [
         int(child)
         for child in children
-        if b"/cif-sql\0" in Path(f"/proc/{child}/cmdline").read_bytes()
+        if b"\0cif-sql\0" in Path(f"/proc/{child}/cmdline").read_bytes()
     ]
 
 
@@ -337,7 +522,7 @@ def check_writers(counts: Counts, maker: Maker, special: Path) -> None:
     failing = failing_cif(maker, "calls", "touch reached; sleep 1; exit 0")
     before = {path.name: path.read_bytes() for path in maker.folder.iterdir()}
     words: List[Word] = [
-        COMPANIONS / "cif-sql",
+        PROGRAMS / "cif-sql",
         "--cif",
         failing.cif,
         "--force",
@@ -375,7 +560,7 @@ def check_kills(counts: Counts, maker: Maker, special: Path) -> None:
     """Killed at any moment, with the processes that write, it leaves the old database or the new one, whole."""
     first = changed(maker, special, "first.cif", ("DFTEST1", "DFTESTA"))
     extracts = {"DFTESTA": first, "DFTEST1": special}
-    words: List[Word] = [COMPANIONS / "cif-sql", "--cif", maker.cif, "--force", "-o", "kept.db"]
+    words: List[Word] = [PROGRAMS / "cif-sql", "--cif", maker.cif, "--force", "-o", "kept.db"]
     start = time.monotonic()
     maker.run(*words[3:], special)
     whole = time.monotonic() - start
@@ -399,9 +584,9 @@ def check_kills(counts: Counts, maker: Maker, special: Path) -> None:
         there = reference
     # the first kill comes long before the end
     counts.test("kills come before the end", True in seen, seen)
-    for path in maker.folder.glob(".kept.db.*"):
-        path.unlink()
     maker.run(*words[3:], special)
+    over = [path.name for path in maker.folder.glob(".kept.db.*")]
+    counts.same("what killed runs have left, after the next one", [], over)
 
 
 def check_readers(counts: Counts, maker: Maker, special: Path) -> None:
@@ -440,6 +625,10 @@ def check(counts: Counts, maker: Maker, special: Path) -> None:
     check_streams(counts, maker, special)
     check_output(counts, maker, special)
     check_user_files(counts, maker, special)
+    check_endless(counts, maker)
+    check_escapes(counts, maker, special)
+    check_midnights(counts, maker)
+    check_sending(counts)
     check_replacement(counts, maker, special)
     check_failures(counts, maker, special)
     check_signals(counts, maker, special)

@@ -99,6 +99,7 @@ def check_replacement(counts: Counts, maker: Maker, special: Path) -> None:
 def check_misuse(counts: Counts, maker: Maker, special: Path) -> None:
     for name, words in (
         ("a bad schema", ("--postgres", "--schema", 'a"b')),
+        ("a schema that another one is made in", ("--postgres", "--schema", "cif_new")),
         ("an output", ("--postgres", "-o", "made.db")),
         ("a schema for SQLite", ("--schema", "cif")),
     ):
@@ -190,20 +191,65 @@ def check_privileges(counts: Counts, maker: Maker, special: Path) -> None:
     """Who may read the schema may read the one that takes its place."""
     query = (
         "SELECT relname, relacl FROM pg_class WHERE relnamespace = 'cif'::regnamespace AND relacl IS NOT NULL"
-        " UNION SELECT 'cif', nspacl FROM pg_namespace WHERE nspname = 'cif' ORDER BY 1"
+        " UNION SELECT 'cif', nspacl FROM pg_namespace WHERE nspname = 'cif'"
+        " UNION SELECT relname || '.' || attname, attacl FROM pg_attribute JOIN pg_class ON attrelid = pg_class.oid"
+        " WHERE relnamespace = 'cif'::regnamespace AND attacl IS NOT NULL"
+        " UNION SELECT defaclrole::regrole::text || ' ' || defaclobjtype::text, defaclacl FROM pg_default_acl"
+        " WHERE defaclnamespace = 'cif'::regnamespace ORDER BY 1"
     )
     psql(
         "-c",
-        "DROP ROLE IF EXISTS reader; CREATE ROLE reader; GRANT USAGE ON SCHEMA cif TO reader;"
+        'CREATE ROLE reader; CREATE ROLE "odd %s"; GRANT USAGE ON SCHEMA cif TO reader;'
         "GRANT SELECT ON ALL TABLES IN SCHEMA cif TO reader; GRANT SELECT ON runs TO PUBLIC;"
-        "GRANT UPDATE ON days TO reader WITH GRANT OPTION",
+        "GRANT UPDATE ON days TO reader WITH GRANT OPTION;"
+        'GRANT SELECT (uid), UPDATE (power) ON schedules TO "odd %s" WITH GRANT OPTION;'
+        "ALTER DEFAULT PRIVILEGES IN SCHEMA cif GRANT SELECT ON TABLES TO reader;"
+        'ALTER DEFAULT PRIVILEGES FOR ROLE "odd %s" IN SCHEMA cif GRANT USAGE ON TYPES TO PUBLIC',
     )
     before = rows_of(query)
-    counts.same("tables and views that reader may read", 18, len(before))
+    # the schema, 17 tables and views, two columns, and two privileges by default
+    counts.same("privileges before", 22, len(before))
     counts.same("a script where a role reads", (0, "", ""), ended(load(maker, special)))
     counts.same("privileges", before, rows_of(query))
     found = psql("-A", "-t", "-c", "SET ROLE reader; SELECT count(*) FROM cif.runs")
     counts.same("what the role reads", (0, "20\n", ""), ended(found))
+
+
+def check_strangers(counts: Counts, maker: Maker, special: Path) -> None:
+    """What a role has made that may create schemas isn't called, as it would have the rights of
+    whoever loads: neither by a view in place of the table, nor by a name."""
+    psql("-c", "CREATE ROLE eve LOGIN; GRANT CREATE ON DATABASE postgres TO eve")
+    psql("-c", "GRANT CREATE ON SCHEMA public TO eve")
+    body = "LANGUAGE plpgsql AS 'BEGIN ALTER ROLE eve SUPERUSER; RETURN NULL; END'"
+    made = (
+        "CREATE SCHEMA theirs; COMMENT ON SCHEMA theirs IS 'made by cif-sql';"
+        f"CREATE FUNCTION theirs.moment() RETURNS text {body};"
+        "CREATE VIEW theirs.extract AS SELECT theirs.moment() AS extracted_at,"
+        " date '2020-01-01' AS first_date, date '2020-01-01' AS last_date;"
+        f"CREATE FUNCTION public.format(text, text, date, date) RETURNS text {body}"
+    )
+    counts.same("what eve makes", (0, "", ""), ended(psql("-U", "eve", "-c", made)))
+    done = load(maker, "--schema", "theirs", special)
+    counts.same("a schema that another user owns, status", 3, done.returncode)
+    counts.test(
+        "a schema that another user owns, reported", "of another user" in done.stderr, done.stderr
+    )
+    psql("-c", "ALTER SCHEMA theirs OWNER TO tests; ALTER VIEW theirs.extract OWNER TO tests")
+    done = load(maker, "--schema", "theirs", special)
+    counts.same("a view in place of the table, status", 3, done.returncode)
+    counts.test("a view in place of the table, reported", "damaged" in done.stderr, done.stderr)
+    eve = "SELECT rolsuper FROM pg_roles WHERE rolname = 'eve'"
+    counts.same("whether eve is superuser by a view", [("f",)], rows_of(eve))
+    psql("-c", "ALTER ROLE eve NOSUPERUSER; UPDATE extract SET extracted_at = '2030-01-01T00:00'")
+    # with `public` among the schemas that are searched, as is usual
+    done = psql(schema="public", script=script_of(maker, special))
+    counts.test(
+        "a function of another user", "later extract, of 2030-01-01T00:00" in done.stderr, done
+    )
+    counts.same("whether eve is superuser by a function", [("f",)], rows_of(eve))
+    psql("-c", "DROP SCHEMA theirs CASCADE; DROP FUNCTION public.format(text, text, date, date)")
+    by_force = load(maker, "--force", special)
+    counts.same("special.cif by force", (0, "", ""), ended(by_force))
 
 
 def check_words(counts: Counts) -> None:
@@ -219,7 +265,9 @@ def check_words(counts: Counts) -> None:
     counts.same("there are columns", "t", count)
 
 
-def check(counts: Counts, maker: Maker, special: Path) -> None:
+def check(counts: Counts, maker: Maker, special: Path, blank: Path) -> None:
+    counts.same("blank.cif for psql", 0, load(maker, "--force", blank).returncode)
+    by_hand.check_queries(counts, by_hand.BLANK_QUERIES, rows_of, "PostgreSQL")
     counts.same("special.cif for psql", 0, load(maker, "--force", special).returncode)
     queries = {name: query for name, query in by_hand.QUERIES.items() if "typeof" not in query[0]}
     by_hand.check_queries(counts, queries, rows_of, "PostgreSQL")
@@ -230,6 +278,7 @@ def check(counts: Counts, maker: Maker, special: Path) -> None:
     check_transactions(counts, maker, special)
     check_together(counts, maker, special)
     check_privileges(counts, maker, special)
+    check_strangers(counts, maker, special)
     for path in maker.folder.glob("*.cif"):
         if path.name in ("earlier.cif", "first.cif"):
             path.unlink()

@@ -11,7 +11,7 @@ from pathlib import Path
 sys.dont_write_bytecode = True
 HERE = Path(__file__).resolve().parent
 TOP = HERE.parents[1]
-sys.path[:1] = [str(HERE.parent), str(TOP / "companions")]
+sys.path[:1] = [str(HERE.parent), str(TOP / "python")]
 
 from gtfs import generated
 from gtfs.checks import Counts, Source
@@ -30,16 +30,19 @@ def main() -> int:
         maker = Maker(cif, folder)
         special, many = folder / "special.cif", folder / "generated.cif"
         special.write_text(by_hand.EXTRACT)
+        blank = folder / "blank.cif"
+        blank.write_text(by_hand.BLANK)
         many.write_bytes(generated.extract(random.Random(SEED), SCHEDULES))
         for path in special, TOP / "examples" / "timetable.cif", many:
             expected = Expected(Source(cif, path))
             check_database(counts, expected, partial(sqlite_rows, maker.database(path)))
             if "PGHOST" in os.environ:
                 postgres.check_database(counts, maker, expected)
-        by_hand.check(counts, maker, special)
+        by_hand.check(counts, maker, special, blank)
         if "PGHOST" in os.environ:
-            postgres.check(counts, maker, special)
+            postgres.check(counts, maker, special, blank)
             documents.check_questions(counts, maker)
+            documents.check_hub(counts, maker)
         documents.check_job(counts, cif, folder / "nights")
         failures.check(counts, maker, special)
         words.check(counts)

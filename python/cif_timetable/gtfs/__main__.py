@@ -1,0 +1,4 @@
+"""Starts cif-gtfs by `python -m`."""
+from .._start import run
+
+run("cif-gtfs")

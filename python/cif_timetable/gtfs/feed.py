@@ -1,0 +1,208 @@
+"""The files of a feed, and the zip that has them."""
+from __future__ import annotations
+
+import csv
+import io
+import shutil
+import zipfile
+from collections.abc import Iterable, Iterator, Mapping, Sequence
+from contextlib import contextmanager
+from itertools import islice
+from typing import IO, NamedTuple
+
+from .._files import BLOCK, scratch_file
+from ..days import WEEKDAYS, Dates
+from ..model import Header
+from ..user_csv import Key, csv_cell
+from .routes import Ends, Routes
+from .services import Services
+from .stops import Stops
+from .trains import About, Record
+from .trips import Link, PlainTrip, Trip, ends_of
+from .user_files import InterchangeRow, LinkRow
+
+# The address of an operator whose own isn't known.
+WEB = "https://www.nationalrail.co.uk/"
+TIMEZONE = "Europe/London"
+LANGUAGE = "en"
+HEADINGS: dict[str, str] = {
+    "agency": "agency_id agency_name agency_url agency_timezone agency_lang",
+    "stops": "stop_id stop_code stop_name stop_lat stop_lon location_type parent_station"
+    " platform_code",
+    "routes": "route_id agency_id route_long_name route_type",
+    "trips": "route_id service_id trip_id trip_headsign trip_short_name direction_id block_id",
+    "stop_times": "trip_id stop_sequence stop_id arrival_time departure_time drop_off_type"
+    " pickup_type",
+    "calendar": f"service_id {' '.join(WEEKDAYS)} start_date end_date",
+    "calendar_dates": "service_id date exception_type",
+    "transfers": "from_stop_id to_stop_id from_trip_id to_trip_id transfer_type min_transfer_time",
+    "feed_info": "feed_publisher_name feed_publisher_url feed_lang default_lang feed_start_date"
+    " feed_end_date feed_version feed_contact_email",
+}
+CHANGE_IN_TIME = 2
+STAY_SEATED = 4
+ROWS = 10_000
+# It takes half the time of the usual level, and makes a zip that is a tenth larger.
+LEVEL = 4
+
+Cell = str | int | float | None
+Row = Sequence[Cell]
+
+
+def new_zip(file: IO[bytes]) -> zipfile.ZipFile:
+    return zipfile.ZipFile(file, "w", zipfile.ZIP_DEFLATED, compresslevel=LEVEL)
+
+
+def csv_of(rows: Iterable[Row]) -> bytes:
+    """The bytes of rows."""
+    text = io.StringIO(newline="")
+    csv.writer(text, lineterminator="\n").writerows(rows)
+    return text.getvalue().encode()
+
+
+@contextmanager
+def entry(archive: zipfile.ZipFile, name: str) -> Iterator[IO[bytes]]:
+    """A file of the zip, with its heading. Its time stamp is the earliest that a zip has, so equal
+    feeds are equal zips."""
+    with archive.open(f"{name}.txt", "w", force_zip64=True) as data:
+        with io.BufferedWriter(data, BLOCK) as blocks:  # type: ignore[arg-type]
+            blocks.write(csv_of([HEADINGS[name].split()]))
+            yield blocks
+    archive.getinfo(f"{name}.txt").external_attr = 0o644 << 16
+
+
+def write_file(archive: zipfile.ZipFile, name: str, rows: Iterable[Row]) -> None:
+    with entry(archive, name) as data:
+        data.write(csv_of(rows))
+
+
+def copy_file(archive: zipfile.ZipFile, name: str, rows: IO[bytes]) -> None:
+    """Writes the rows of a temporary file."""
+    rows.seek(0)
+    with entry(archive, name) as data:
+        shutil.copyfileobj(rows, data, BLOCK)
+
+
+def write_services(archive: zipfile.ZipFile, services: Services) -> None:
+    """Writes the dates of services, some thousand services at a time, since there may be a million
+    exceptions."""
+    rows = services.rows()
+    with scratch_file() as calendar:
+        with entry(archive, "calendar_dates") as exceptions:
+            for some in iter(lambda: list(islice(rows, ROWS)), []):
+                calendar.write("".join(row.calendar for row in some).encode())
+                exceptions.write("".join(row.exceptions for row in some).encode())
+        copy_file(archive, "calendar", calendar)
+
+
+# What stands behind the trip in its rows.
+SEQUENCE = [b",%d" % number for number in range(1, 1000)]
+
+
+class TripFiles:
+    """Writes the rows of trips and of their stop times as they come."""
+
+    def __init__(
+        self, stops: Stops, routes: Routes, services: Services, files: tuple[IO[bytes], IO[bytes]]
+    ) -> None:
+        self.stops = stops
+        self.routes = routes
+        self.services = services
+        self.trips, self.stop_times = files
+
+    def write(self, trips: Iterable[Trip]) -> None:
+        for trip in trips:
+            self.write_stop_times(trip.id, trip.rows)
+            self.write_row(trip.id, trip.about, trip.ends, trip.dates, trip.block)
+
+    def write_plain(self, trips: Mapping[bytes, PlainTrip]) -> None:
+        for trip_id, trip in trips.items():
+            self.write_stop_times(trip_id, trip.rows)
+            self.write_row(trip_id, trip.about, ends_of(trip.rows), trip.dates)
+
+    def write_row(
+        self, trip_id: bytes, about: About, ends: Ends, dates: Dates, block: bytes = b""
+    ) -> None:
+        identity, _, operator_and_type = about.partition(b"\t")
+        route, headsign, direction = self.routes.shown(operator_and_type, ends)
+        service = self.services.id_of(dates)
+        cells = (route, service, trip_id, headsign, csv_cell(identity), direction, block)
+        self.trips.write(b",".join(cells) + b"\n")
+
+    def write_stop_times(self, trip_id: bytes, rows: Sequence[bytes]) -> None:
+        ids = self.stops.ids
+        while len(SEQUENCE) < len(rows):
+            SEQUENCE.append(b",%d" % (len(SEQUENCE) + 1))
+        # the trip stands before each piece
+        pieces = [b""]
+        for sequence, row in zip(SEQUENCE, rows):
+            location, platform, times = row.split(b"\t", 2)
+            try:
+                stop = ids[location][platform]
+            except KeyError:
+                stop = self.stops.new_id(location, platform)
+            pieces.append(b",".join((sequence, stop, times)))
+        # times, set down and pick up stand in the order of the heading
+        self.stop_times.write(trip_id.join(pieces).replace(b"\t", b","))
+
+
+class TransferRow(NamedTuple):
+    """A row of transfers.txt."""
+
+    from_stop: str
+    to_stop: str
+    from_trip: str
+    to_trip: str
+    type: int
+    seconds: Cell
+
+
+def transfer_rows(
+    links: Iterable[Link],
+    stops: Stops,
+    interchange: Mapping[Key, InterchangeRow],
+    fixed_links: Mapping[Key, LinkRow],
+) -> list[TransferRow]:
+    """The rows of linked trips, of the times of change, and of the links between stations."""
+    rows = []
+    for one, other in links:
+        ends = (one.rows[-1].split(b"\t", 2), other.rows[0].split(b"\t", 2))
+        end, begin = (stops.ids[location][platform].decode() for location, platform, _ in ends)
+        rows.append(TransferRow(end, begin, one.id.decode(), other.id.decode(), STAY_SEATED, None))
+    rows.sort(key=lambda row: (row.from_stop, row.from_trip, row.to_stop, row.to_trip))
+    stations = {station.code: station.id for station in stops.stations()}
+    changes = [(row.crs, row.crs, row.minutes) for row in interchange.values()]
+    changes += [(row.origin, row.destination, row.minutes) for row in fixed_links.values()]
+    for origin, destination, minutes in changes:
+        if origin in stations and destination in stations:
+            way = (stations[origin], stations[destination])
+            rows.append(TransferRow(*way, "", "", CHANGE_IN_TIME, minutes * 60))
+    return rows
+
+
+class Publisher(NamedTuple):
+    """Who answers for a feed."""
+
+    name: str
+    url: str
+    email: str
+
+
+def feed_info_row(header: Header, publisher: Publisher) -> Row:
+    dates = [f"{day:%Y%m%d}" for day in (header.first_date, header.last_date)]
+    version = (header.current_reference, header.extract_date, header.extract_time)
+    words = " ".join(filter(None, (word.strip() for word in version if word)))
+    about = (publisher.name, publisher.url, LANGUAGE, LANGUAGE)
+    return (*about, *dates, words, publisher.email)
+
+
+TRIP_RECORDS = "trip_id uid first_date last_date days_run days_later retail_service_id".split()
+
+
+def trip_record_rows(
+    trip_id: bytes, uid: str, days_later: int, records: Iterable[Record]
+) -> Iterator[Row]:
+    """The schedules that a trip is made of, for whoever matches trains of real time."""
+    for record in records:
+        first, last, days_run, retail = (cell.decode() for cell in record)
+        yield (trip_id.decode(), uid, first, last, days_run, days_later, retail)

@@ -1,0 +1,75 @@
+"""From an extract to a database in a file."""
+from __future__ import annotations
+
+import hashlib
+import os
+from collections.abc import Callable, Iterator
+from concurrent.futures import ThreadPoolExecutor
+from contextlib import contextmanager
+from datetime import datetime, timezone
+from functools import partial
+from pathlib import Path
+
+from .._extract import Extract
+from .._files import BLOCK, new_files
+from .._process import Cif
+from .._progress import Progress
+from ..operators import read_operators
+from ..places import PLACES
+from ..user_csv import CONTROL, read_file
+from .background import in_background
+from .loading import Source, UserFiles, load
+from .sqlite_file import Parts, check_age, check_place, join_parts, new_part
+
+
+def user_files(places: str | None, operators: str | None) -> UserFiles:
+    """What the files of the user have, as far as there are any."""
+    return UserFiles(read_file(PLACES, places), read_operators(operators))
+
+
+def version_of(cif: Cif) -> str:
+    """The version of `cif`."""
+    with cif.output(["--version"]) as lines:
+        return lines.read().decode().strip().rpartition(" ")[2]
+
+
+def digest_of(path: Path) -> str:
+    digest = hashlib.sha256()
+    with open(path, "rb") as file:
+        for block in iter(lambda: file.read(BLOCK), b""):
+            digest.update(block)
+    return digest.hexdigest()
+
+
+@contextmanager
+def reading_source(extract: Extract) -> Iterator[Callable[[], Source]]:
+    """What tells the source of an extract, whose digest is made meanwhile by a thread."""
+    now = datetime.now(timezone.utc).isoformat(timespec="seconds")
+    shown = CONTROL.sub("?", os.fsencode(extract.request.name).decode(errors="replace"))
+    version = version_of(extract.cif)
+    with ThreadPoolExecutor(1) as threads:
+        digest = threads.submit(digest_of, extract.source)
+        yield lambda: Source(shown, digest.result(), version, now)
+        extract.check_state()
+
+
+def make_database(
+    extract: Extract, place: Path, given: UserFiles, force: bool, progress: Progress
+) -> None:
+    """Writes the SQLite file. It takes its place once it is complete, unless there is a later one,
+    which is replaced by force only."""
+    if not force:
+        check_age(place, extract.header())
+    with new_files() as files:
+        path, longest, others = files.reserve(place), files.beside(place), files.beside(place)
+        parts = [partial(new_part, part, place) for part in (longest, others)]
+        # no thread is there yet when the processes start
+        with in_background(parts) as databases:
+            with reading_source(extract) as source:
+                load(extract, source, given, Parts(*databases), progress)
+            progress.show("building indexes")
+        join_parts(longest, others, path, place)
+        # it may have become another one meanwhile
+        check_place(place)
+        if not force:
+            check_age(place, extract.header())

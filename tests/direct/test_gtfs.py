@@ -1,0 +1,138 @@
+"""Functions of cif-gtfs."""
+from __future__ import annotations
+
+import io
+import tempfile
+import unittest
+from datetime import date
+
+from cif_timetable._tables import Table
+from cif_timetable.days import Window
+from cif_timetable.gtfs.calls import Stop, row_at, rounded_up
+from cif_timetable.gtfs.parts import Index, Part, Schedules, parts_of
+from cif_timetable.gtfs.services import Services
+from cif_timetable.gtfs.trains import EXTENDED_TYPES, Kind, Sort, kind_of
+from cif_timetable.riders import is_for_riders
+
+# 28 days from a Monday on.
+WINDOW = Window(date(2026, 6, 1), date(2026, 6, 28))
+
+
+class ServicesOfDates(unittest.TestCase):
+    """How calendar.txt and calendar_dates.txt say dates."""
+
+    def rows(self, *days: int) -> list[str]:
+        """The rows of a service on these days of June, without its id."""
+        services = Services(WINDOW)
+        services.id_of(sum(1 << day - 1 for day in days))
+        [rows] = services.rows()
+        return [line.partition(",")[2] for line in (rows.calendar + rows.exceptions).splitlines()]
+
+    def test_weekdays_to_the_end(self) -> None:
+        self.assertEqual(["1,1,0,0,0,0,0,20260601,20260609"], self.rows(1, 2, 8, 9))
+
+    def test_a_date_that_is_missing(self) -> None:
+        """Two Mondays of three: more than half."""
+        wanted = ["1,0,0,0,0,0,0,20260601,20260615", "20260608,2"]
+        self.assertEqual(wanted, self.rows(1, 15))
+
+    def test_half_of_a_weekday(self) -> None:
+        """Each Monday, and two Tuesdays of four between the ends: these are no usual day."""
+        wanted = ["1,0,0,0,0,0,0,20260601,20260623", "20260609,1", "20260623,1"]
+        self.assertEqual(wanted, self.rows(1, 8, 9, 15, 22, 23))
+
+    def test_nothing_usual(self) -> None:
+        """Of no weekday more than half: there are no rows but those of the dates."""
+        self.assertEqual(["20260601,1", "20260622,1"], self.rows(1, 22))
+
+
+class Small(io.BytesIO):
+    """A stream that gives few bytes at once."""
+
+    def __init__(self, text: bytes, size: int) -> None:
+        super().__init__(text)
+        self.size = size
+
+    def read(self, _size: int | None = None) -> bytes:
+        return super().read(self.size)
+
+
+class PartsOfATable(unittest.TestCase):
+    """The public calls of trains, for processes."""
+
+    # the schedules of four trains; the second has no public call, and the third none in its first one
+    UIDS = "A A B C C C C D".split()
+    CALLS = {1: 3, 2: 2, 5: 3, 6: 9, 7: 2, 8: 4}
+
+    def test_whole_trains(self) -> None:
+        lines = [f"{number}\t{uid}\trest\n" for number, uid in enumerate(self.UIDS, 1)]
+        rows = [
+            f"{number}\t{call}\tX\n"
+            for number, count in self.CALLS.items()
+            for call in range(count)
+        ]
+        text = "".join(rows).encode()
+        with tempfile.TemporaryFile() as file:
+            schedules = Schedules([], file)
+            schedules.fill(Table([], io.BytesIO("".join(lines).encode())))
+            for size in (*range(8, 40), 1000):
+                with self.subTest(size):
+                    parts = list(parts_of(Index(schedules), Table([], Small(text, size))))
+                    self.assertEqual(text, b"".join(part.text for part in parts))
+                    self.assertEqual(
+                        "".join(lines), b"".join(self.lines(schedules, parts)).decode()
+                    )
+                    for part in parts:
+                        numbers = {int(row.split(b"\t")[0]) for row in part.text.splitlines()}
+                        uids = {self.UIDS[number - 1] for number in numbers}
+                        others = {
+                            self.UIDS[number - 1] for number in self.CALLS if number not in numbers
+                        }
+                        self.assertFalse(uids & others)
+                        found = {
+                            int(line.split(b"\t")[0]) for line in self.lines(schedules, [part])
+                        }
+                        self.assertLessEqual(numbers, found)
+
+    def lines(self, schedules: Schedules, parts: list[Part]) -> list[bytes]:
+        return [line for part in parts for line in schedules.lines_in(part.first, part.last)]
+
+
+class KindsOfTrains(unittest.TestCase):
+    """The route type of a train."""
+
+    def test_sleepers(self) -> None:
+        for sleepers in "BFS":
+            kind = kind_of(Sort("P", "XX", sleepers))
+            self.assertEqual((Kind.SLEEPER, 105), (kind, EXTENDED_TYPES[kind]), sleepers)
+        self.assertEqual(Kind.SLEEPER, kind_of(Sort("P", "XZ", "")))
+        self.assertEqual(Kind.RAIL, kind_of(Sort("P", "XX", "")))
+
+    def test_others(self) -> None:
+        self.assertEqual(714, EXTENDED_TYPES[kind_of(Sort("B", "BR", ""))])
+        self.assertEqual(Kind.BUS, kind_of(Sort("5", "BS", "")))
+        self.assertEqual(Kind.SHIP, kind_of(Sort("S", "SS", "")))
+        self.assertEqual(Kind.METRO, kind_of(Sort("P", "OL", "")))
+
+    def test_who_may_ride(self) -> None:
+        self.assertTrue(is_for_riders("P", "OO"))
+        for status, category in (("F", "XX"), ("P", "EE"), ("P", "H2"), ("T", "")):
+            self.assertFalse(is_for_riders(status, category), (status, category))
+
+
+class TimesOfStops(unittest.TestCase):
+    """Stops that aren't public get the day that is nearest."""
+
+    def test_rounded_up(self) -> None:
+        self.assertEqual(23 * 3600 + 5 * 60, rounded_up("2304H"))
+        self.assertEqual(24 * 3600, rounded_up("2359H"))
+
+    def test_after_midnight(self) -> None:
+        before = b"A\t1\t23:50:00\t23:55:00\t0\t0\n"
+        row = row_at(Stop("2", "LI", "B", "", "", "0005", "0010"), before, None)
+        self.assertEqual(b"B\t\t24:05:00\t24:10:00\t1\t1\n", row)
+
+    def test_before_the_first_call(self) -> None:
+        after = b"B\t1\t00:10:00\t00:12:00\t0\t0\n"
+        row = row_at(Stop("1", "LO", "A", "", "2", "", "0005"), None, after)
+        self.assertEqual(b"A\t2\t00:05:00\t00:05:00\t1\t1\n", row)

@@ -1,0 +1,1 @@
+"""Tests of what the programs beside cif leave where a machine fails them."""
