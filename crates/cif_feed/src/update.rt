@@ -97,6 +97,8 @@ impl PublishedExtract {
             IsUpdated (update_parts update) (published_parts self.old) (published_parts self.new)) }
         ensures refused { IfOk result (λ refused.
             AreRefusedLines (update_parts update) (published_parts self.old) refused.items) }
+        ensures counts { self.new.counts ≡ self.old.counts }
+        ensures passed { self.new.passed ≡ self.old.passed }
     {
         let Update {
             header,
@@ -131,9 +133,11 @@ impl PublishedExtract {
         lenient: bool,
     ) -> Result<Outcome, FeedFault>
         requires within { max_lines ≤ MAX_LINES }
-        ensures { IsResultOf R.remaining R.read_errors
+        ensures reads { IsResultOf R.remaining R.read_errors
             (updating lenient (published_parts self.old) (published_parts self.new) max_lines)
             source.old source.new result }
+        ensures counts { self.new.counts ≡ self.old.counts }
+        ensures passed { self.new.passed ≡ self.old.passed }
     {
         let update = Update::read(alloc, source, max_lines)?;
         let (counts, passed) = (update.counts, update.passed);
