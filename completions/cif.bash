@@ -70,7 +70,7 @@ _cif() {
         day) options='-v --verbose --stops --format -h --help' ;;
         explain) options='-v --verbose --format -h --help' ;;
         prepare) options='-v --verbose --holidays --drop-clashes -h --help' ;;
-        update) options='-v --verbose --lenient -h --help' ;;
+        update) options='-v --verbose --lenient --in-sequence -h --help' ;;
         esac
         _cif_offer "$options"
         return

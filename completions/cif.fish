@@ -59,8 +59,8 @@ complete -c cif -n __cif_without_command -a help -d 'Print the help of the progr
 complete -c cif -n __cif_without_command -s h -l help -d 'Print help'
 complete -c cif -n __cif_without_command -s V -l version -d 'Print the version'
 
-complete -c cif -n '__cif_in normalise check compare diff train clashes table calendar' -l from -x -d 'First date of the window, YYMMDD'
-complete -c cif -n '__cif_in normalise check compare diff train clashes table calendar' -l to -x -d 'Last date of the window, YYMMDD'
+complete -c cif -n '__cif_in normalise check compare diff train clashes table calendar' -l from -x -d 'First date of the window, YYMMDD or YYYY-MM-DD'
+complete -c cif -n '__cif_in normalise check compare diff train clashes table calendar' -l to -x -d 'Last date of the window, YYMMDD or YYYY-MM-DD'
 complete -c cif -n '__cif_in compare diff' -l common -d 'Use the common window'
 complete -c cif -n '__cif_in day train' -l stops -d 'List the calls of each train too'
 complete -c cif -n '__cif_in diff clashes calendar' -l format -x -a 'text tsv json' -d 'Layout'
@@ -71,6 +71,7 @@ complete -c cif -n '__cif_in normalise check train table' -l form -x -a '1 2 3' 
 complete -c cif -n '__cif_in prepare' -l holidays -r -F -d 'Dates of the holiday codes'
 complete -c cif -n '__cif_in prepare' -l drop-clashes -d 'Leave out what has a clash, on its dates'
 complete -c cif -n '__cif_in update' -l lenient -d 'Go on if an update or a line of it does not fit'
+complete -c cif -n '__cif_in update' -l in-sequence -d 'With --lenient, refuse an update that does not follow'
 complete -c cif -n '__cif_in normalise check compare diff day train explain clashes table calendar prepare update' -s v -l verbose -d 'Say more on standard error'
 complete -c cif -n '__cif_in normalise check compare diff day train explain clashes table calendar prepare update' -s h -l help -d 'Print help'
 

@@ -5,7 +5,7 @@ from random import Random
 from typing import List, NamedTuple, Optional, Sequence, Tuple
 
 from reference.answers import OF_FEEDS, OF_TWO, OPTIONS, Inputs, Job
-from reference.dates import DAY, Window, yymmdd
+from reference.dates import DAY, Window, from_yymmdd, yymmdd
 from reference.tables import TABLES
 
 from .damage import damaged
@@ -61,6 +61,7 @@ BAD_DATE_WORDS: Tuple[str, ...] = (
     "26\u06611",
     "\u0662\u0666\u0661",
 )
+BAD_DATE_WORDS += ("2026-02-30", "2060-01-01", "1959-12-31", "26-01-14", "2026-1-14", "20260114")
 BAD_DATE_WORDS += (
     "26\n114",
     "26\x01\r\x1f\x80\x9f\xa0",
@@ -122,6 +123,16 @@ def date_word(rng: Random, window: Window, odds: Odds) -> str:
     if rng.random() < 0.1:
         return yymmdd(rng.choice([first, last]))
     return yymmdd(some_day(rng, window))
+
+
+def with_long_dates(rng: Random, job: Job) -> Job:
+    """The job, some of whose dates are written YYYY-MM-DD."""
+
+    def written(word: Optional[str]) -> Optional[str]:
+        day = None if word is None or rng.random() < 0.7 else from_yymmdd(word)
+        return word if day is None else day.isoformat()
+
+    return job._replace(day=written(job.day), first=written(job.first), last=written(job.last))
 
 
 def window_words(rng: Random, window: Window, odds: Odds) -> Sequence[Optional[str]]:
@@ -240,7 +251,7 @@ def some_job(rng: Random, command: str, timetable: Timetable, options: bool, odd
         )
     if command == "calendar":
         job = job._replace(uid=uid_word(rng, timetable.schedules, odds))
-    return with_options(rng, job, timetable, odds) if options else job
+    return with_long_dates(rng, with_options(rng, job, timetable, odds) if options else job)
 
 
 def with_options(rng: Random, job: Job, timetable: Timetable, odds: Odds) -> Job:

@@ -102,7 +102,7 @@ def some_update_job(rng: Random, odds: Odds) -> Tuple[Job, List[bytes]]:
         names, inputs = names[:1], inputs[:1]
     if rng.random() < odds["wrong header"] / 2:
         inputs.reverse()
-    return Job("update", tuple(names), lenient=lenient), inputs
+    return Job("update", tuple(names), lenient=lenient, in_sequence=rng.random() < 0.4), inputs
 
 
 def some_feed(rng: Random, command: str, odds: Odds) -> Tuple[Job, Inputs]:

@@ -110,6 +110,7 @@ NO_HOLIDAYS += (
     b"X ; remark",
     b"/!! made by hand",
 )
+NO_HOLIDAYS += (b"X 2026-04-31", b"E 260406 2026-4-6", b"G 2060-01-01", b"X 26-04-06")
 NO_HOLIDAYS += (b"X 260406\r", b"X 260406\x00", b"\xa0", b"X \xc2\xa0")
 NO_HOLIDAYS += (
     b"X" + b" 260406" * 11 + b" 26040",
@@ -137,7 +138,8 @@ def holiday_lines(rng: Random, code: str, days: List[date]) -> List[bytes]:
     found = [b""] * rng.choice([1, 1, 1, 2, 3])
     for day in rng.sample(days, len(days)):
         at = rng.randrange(len(found))
-        found[at] += b" " * rng.choice([1, 1, 1, 2, 5]) + yymmdd(day).encode()
+        word = day.isoformat() if rng.random() < 0.2 else yymmdd(day)
+        found[at] += b" " * rng.choice([1, 1, 1, 2, 5]) + word.encode()
     return [
         b" " * rng.choice([0, 0, 0, 2]) + code.encode() + said + b" " * rng.choice([0, 0, 0, 1, 3])
         for said in found
@@ -163,6 +165,9 @@ def some_holidays(rng: Random, lines: List[str], odds: Odds) -> bytes:
         days: List[date] = []
         for _ in range(rng.choice([0, 1, 2, 4, 12]) if of_code else 0):
             days.append(some_holiday(rng, of_code, days))
+        if rng.random() < 0.2:
+            far = rng.choice([-365, -251, -250, 250, 251, 365]) * DAY
+            days = [bounded(day + far) for day in days]
         if rng.random() < (1 - odds["no code"] if of_code else 0.5):
             found += holiday_lines(rng, code, days)
     if rng.random() < odds["no holidays"]:

@@ -3,11 +3,11 @@ from __future__ import annotations
 
 import re
 from datetime import date
-from typing import List, NamedTuple, Optional, Sequence, Tuple, Union
+from typing import List, NamedTuple, Optional, Sequence, Set, Tuple, Union
 
 from . import published, tables, texts, verbose
 from .calendars import calendar
-from .dates import from_yymmdd
+from .dates import from_word
 from .explanation import explanation
 from .extracts import Extract, common_of, extract_of, narrowed, read_extract, window_of
 from .faults import REFUSED, WORDS, Fault, of_input
@@ -42,6 +42,7 @@ class Job(NamedTuple):
     holidays: Optional[str] = None
     drop_clashes: bool = False
     lenient: bool = False
+    in_sequence: bool = False
     verbose: bool = False
 
 
@@ -70,7 +71,7 @@ OPTIONS = {
     "table": {"first", "last", "form"},
     "calendar": {"first", "last"},
     "prepare": {"holidays", "drop_clashes"},
-    "update": {"lenient"},
+    "update": {"lenient", "in_sequence"},
 }
 OF_TWO = ("compare", "diff")
 OF_FEEDS = ("prepare", "update")
@@ -88,7 +89,7 @@ MISTAKE = Answer(b"", b"error:", WORDS)
 
 def date_of(word: Optional[str]) -> Optional[date]:
     """The date of a word; of no word there is none."""
-    day = None if word is None else from_yymmdd(word)
+    day = None if word is None else from_word(word)
     if word is not None and day is None:
         raise Fault("bad date", WORDS, word=word)
     return day
@@ -125,7 +126,10 @@ def shown(job: Job, inputs: Inputs) -> List[Input]:
 
 
 def of_prepare(job: Job, inputs: List[Input]) -> Tuple[List[str], int, List[str], List[str]]:
-    """The lines of the prepared extract, and a line for each key that is dropped."""
+    """
+    The lines of the prepared extract, a line for each code whose holidays don't reach the window, and one for each key that is
+    dropped.
+    """
     with of_input(1):
         holidays = {} if job.holidays is None else read_holidays(inputs[1].data)
     with of_input(0):
@@ -134,13 +138,21 @@ def of_prepare(job: Job, inputs: List[Input]) -> Tuple[List[str], int, List[str]
     clashes = clash_dates(extract_of(records)) if job.drop_clashes else None
     if clashes:
         records = published.prepared(read, holidays, clashes)
-    told = [published.told(key, days) for key, days in (clashes or {}).items()]
+    told = published.unreached(read, holidays)
+    told += [published.told(key, days) for key, days in (clashes or {}).items()]
     return (
         published.written(records),
         0,
         told,
         verbose.of_prepared(inputs[0], read, holidays, clashes),
     )
+
+
+def waived_by(job: Job) -> Set[str]:
+    """The refusals of lines of an update that are waived."""
+    if not job.lenient:
+        return set()
+    return {"NotThere", "AlreadyThere"} | (set() if job.in_sequence else {"OutOfSequence"})
 
 
 def of_update(job: Job, inputs: List[Input]) -> Tuple[List[str], int, List[str], List[str]]:
@@ -157,7 +169,7 @@ def of_update(job: Job, inputs: List[Input]) -> Tuple[List[str], int, List[str],
     for at, update in enumerate(updates, 1):
         with of_input(at):
             read = published.read_update(update.data)
-            records, waived = published.updated(records, read, job.lenient)
+            records, waived = published.updated(records, read, waived_by(job))
         if not is_marked and published.has_marks(read):
             is_marked, told = True, [published.AS_PREPARED, *told]
             of_full.append(verbose.of_prepared_full(full))
@@ -251,6 +263,7 @@ def is_mistake(job: Job) -> bool:
         "holidays",
         "drop_clashes",
         "lenient",
+        "in_sequence",
     )
     given = {name for name in names if getattr(job, name) not in (None, False)}
     taken = (

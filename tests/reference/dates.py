@@ -1,4 +1,4 @@
-"""Dates as CIF writes them: six digits, of the years 1960 to 2059. Weeks run from Monday to Sunday."""
+"""Dates as CIF writes them: six digits, of the years 1960 to 2059; and as words. Weeks run from Monday to Sunday."""
 from __future__ import annotations
 
 import re
@@ -12,6 +12,7 @@ LAST_OF_ALL = date(2059, 12, 31)
 # A first and a last date.
 Window = Tuple[date, date]
 SIX_DIGITS = re.compile(r"[0-9]{6}")
+LONG_DATE = re.compile(r"[0-9]{4}-[0-9]{2}-[0-9]{2}")
 
 
 def named(year: int, month: int, day: int) -> Optional[date]:
@@ -34,6 +35,17 @@ def from_ddmmyy(text: str) -> Optional[date]:
     return (
         named(int(text[4:]), int(text[2:4]), int(text[:2])) if SIX_DIGITS.fullmatch(text) else None
     )
+
+
+def from_word(text: str) -> Optional[date]:
+    """The date of six digits yymmdd, or of YYYY-MM-DD, or None."""
+    if not LONG_DATE.fullmatch(text):
+        return from_yymmdd(text)
+    try:
+        day = date.fromisoformat(text)
+    except ValueError:
+        return None
+    return day if FIRST_OF_ALL <= day <= LAST_OF_ALL else None
 
 
 def day_of(text: str) -> date:

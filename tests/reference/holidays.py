@@ -5,13 +5,13 @@ import re
 from datetime import date
 from typing import Dict, List, Optional, Set, Tuple
 
-from .dates import from_yymmdd
+from .dates import from_word
 from .extracts import contents_of
 from .faults import FAILED, REFUSED, Fault
 from .values import HOLIDAY_CODES
 
 WIDTH = 1000
-SAID = re.compile(rb" *(?:([XEG])((?: +[0-9]{6})*) *)?")
+SAID = re.compile(rb" *(?:([XEG])((?: +[0-9-]+)*) *)?")
 
 
 def said_by(content: bytes) -> Optional[Tuple[Optional[str], List[date]]]:
@@ -20,7 +20,7 @@ def said_by(content: bytes) -> Optional[Tuple[Optional[str], List[date]]]:
     if len(content) > WIDTH or not found:
         return None
     code, words = found[1], found[2] or b""
-    dates = [from_yymmdd(word.decode()) for word in words.split()]
+    dates = [from_word(word.decode()) for word in words.split()]
     known = [day for day in dates if day is not None]
     return None if None in dates else (code.decode() if code else None, known)
 

@@ -11,6 +11,9 @@ from .faults import Refusal, of_line
 from .layouts import BODIES, LAYOUTS, Readers, plain, window_of
 from .meaning import name_of
 
+# How many days may lie between holidays and the end of the window behind them, or its beginning before them.
+MOST_BETWEEN = 250
+
 AS_PREPARED = "FULL has no open end and no holiday code, as if it were prepared"
 OPEN_ENDS: Readers = {values.last_date: values.last_date_or_open_end}
 TRANSACTIONS: Readers = {
@@ -159,6 +162,22 @@ def has_marks(records: List[Record]) -> bool:
     )
 
 
+def unreached(records: List[Record], holidays: Dict[str, Set[date]]) -> List[str]:
+    """What is reported of codes whose holidays all lie long before the end of the window, or long after its beginning."""
+    [header] = of_kind(records, "HD")
+    begins, ends = window_of("HD", header.fields)
+    used = {record.fields["bank_holiday"] for record in of_kind(records, "BS")}
+    lines = []
+    for code in values.HOLIDAY_CODES:
+        days = sorted(holidays.get(code, ())) if code in used else []
+        if days and max((ends - days[-1]).days, (days[0] - begins).days) > MOST_BETWEEN:
+            first, last, *window = map(yymmdd, (days[0], days[-1], begins, ends))
+            lines.append(
+                f"holidays of {code}: {first} to {last}, the window: {' to '.join(window)}"
+            )
+    return lines
+
+
 def told(key: Tuple[str, ...], days: List[date]) -> str:
     """What is reported of a key that has these clash dates."""
     more = len(days) - 1
@@ -219,9 +238,12 @@ def follows(update_header: Record, header: Record) -> bool:
 
 
 def updated(
-    records: List[Record], update: List[Record], lenient: bool
+    records: List[Record], update: List[Record], waives: Set[str]
 ) -> Tuple[List[Record], List[str]]:
-    """The records after an update, and its lines that are waived, each by its number with its refusal."""
+    """The records after an update, and its lines that are waived, each by its number with its refusal.
+
+    What it waives are these refusals.
+    """
     [header], [trailer], [update_header] = (
         of_kind(records, "HD"),
         of_kind(records, "ZZ"),
@@ -231,7 +253,7 @@ def updated(
     waived = []
 
     def waive(record: Record, refusal: str) -> None:
-        if not lenient:
+        if refusal not in waives:
             raise of_line(record.number, Refusal(refusal))
         waived.append(f"line {record.number}: {refusal}")
 

@@ -38,7 +38,7 @@ LETTERS = {"\t": r"\t", "\n": r"\n", "\r": r"\r"}
 KEPT, LOOKED_AT, COMMENTS = 82, 4096, 100
 
 WANTED = {
-    "bad date": "must be a valid date as six digits, YYMMDD",
+    "bad date": "must be a valid date, YYMMDD or YYYY-MM-DD",
     "bad UID": "must be six printable ASCII characters",
 }
 NO_FILE = "No such file or directory (os error 2)"
@@ -60,7 +60,8 @@ BEGINNINGS = {
 HOLIDAYS_OF_JSON = "examples/README.md has a recipe that makes holidays of the government's list"
 SEPARATORS = "words are separated by spaces, not by commas or tabs"
 HOLIDAY_LINE = (
-    "a line has a code, X, E or G, and dates YYMMDD, in at most 1,000 bytes; # begins a remark"
+    "a line has a code, X, E or G, and dates, YYMMDD or YYYY-MM-DD, in at most 1,000 bytes; "
+    "# begins a remark"
 )
 NO_HOLIDAY_CODE = "a code is X, E or G"
 LONG_COMMENT = "a comment has at most 1,000 bytes"

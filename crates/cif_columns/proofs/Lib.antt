@@ -3,6 +3,7 @@ pub mod ColumnReads
 pub mod Comments
 pub mod ContentAnswers
 pub mod ContentRuns
+pub mod DateWords
 pub mod Dates
 pub mod DayColumns
 pub mod DayDigits

@@ -4,6 +4,7 @@ pub mod Clock
 pub mod Comment
 pub mod ContentReader
 pub mod Contents
+pub mod DateWord
 pub mod Day
 pub mod DayDigits
 pub mod DaysRun

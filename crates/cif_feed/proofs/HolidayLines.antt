@@ -4,7 +4,8 @@ use Rattle.cif_feed.proofs.Names.{Contains-append_left, Contains-append_right, C
 use Rattle.cif_feed.proofs.Names.{ContentReader, DecideNoContent, E, Err, G, GivenDecideContent, HasGiven, HasLineMore, HasMore, HasReadOn}
 use Rattle.cif_feed.proofs.Names.{HolidayCode, Holidays, IfErr, IfOk, IfSome, IsBadLine, IsDate, IsDateFault, IsFirstBadLine, IsHoliday}
 use Rattle.cif_feed.proofs.Names.{IsHolidayFault, IsHolidayLine, IsLineFault, IsNextOf, IsResultOf, LineFault, LineNames, LineSays, List}
-use Rattle.cif_feed.proofs.Names.{Names, NamesDay, None, Of, Ok, Option, Result, Some, SomeLine, Source, SpellHolidays, StandsInYymmdd}
+use Rattle.cif_feed.proofs.Names.{Names, NamesDay, None, Of, Ok, Option, Result, Some, SomeLine, Source, SpellHolidays}
+use Rattle.cif_columns.{proofs.DateWords.one-date-word, specs.DateWord.IsDateWord}
 use Rattle.cif_feed.proofs.Names.{Unread, X, [], after_first, answers, ap, append-nil, arith, at_drop_more, at_limits, before_first}
 use Rattle.cif_feed.proofs.Names.{cases_lt, cond, content, content_first, contents_given, contents_of, drop, drop_of_length-le, eqb-true}
 use Rattle.cif_feed.proofs.Names.{failed_after, fails_before_first, false, false_from_ne_true, filter, get_or, get_or-drop, given_all}
@@ -12,7 +13,7 @@ use Rattle.cif_feed.proofs.Names.{given_more, given_within, held, inl, inr, is_s
 use Rattle.cif_feed.proofs.Names.{known_so, length, length-append, length-drop, length-prefix_len, nat_lt, nat_tests, nil_from_length, not}
 use Rattle.cif_feed.proofs.Names.{of_any, one_more, overlong_content, passes_at_first, position_or_len, position_or_len_is, read_on_both}
 use Rattle.cif_feed.proofs.Names.{reader_of, reading_holidays, refl, refuses, same_Some, slice_get, some_content, source_ended, subst, sym}
-use Rattle.cif_feed.proofs.Names.{take, take_all, true, words_in, words_of, yymmdd_in-stands, ℕ, ⊎_elim, ◌++◌, ◌+◌, ◌<◌, ◌==◌, ◌↔◌, ◌∙◌}
+use Rattle.cif_feed.proofs.Names.{take, take_all, true, words_in, words_of, ℕ, ⊎_elim, ◌++◌, ◌+◌, ◌<◌, ◌==◌, ◌↔◌, ◌∙◌}
 use Rattle.cif_feed.proofs.Names.{◌∷◌, ◌≡◌, ◌≤◌, ◌⊎◌}
 use Rattle.std.proofs.lemmas.List.Splits.{slice_split_first, slice_split_none}
 use Rattle.memchr.specs.Find.{IsFirstByte, is_byte}
@@ -140,24 +141,20 @@ more-nothing old new code more = record {
   );
 }
 
--- a word names one day
-one-day : (word : List ℕ) (d e : ℕ) → StandsInYymmdd word d → StandsInYymmdd word e → d ≡ e
-one-day word d e one other = same_Some d e (sym (yymmdd_in-stands word d one) ∙ yymmdd_in-stands word e other)
-
-names-push : (done : List (List ℕ)) (word : List ℕ) (day : ℕ) → StandsInYymmdd word day
+names-push : (done : List (List ℕ)) (word : List ℕ) (day : ℕ) → IsDateWord word day
     → (d : ℕ) → NamesDay (done ++ word ∷ []) d ↔ (NamesDay done d ⊎ (d ≡ day))
 names-push done word day stands d = (
   λ named. ⊎_elim
       (λ early. inl (record { word = named.word; listed = early; stands = named.stands }))
-      (λ last. inr (one-day word d day (subst (λ (w : List ℕ). StandsInYymmdd w d) (sym last) named.stands) stands))
+      (λ last. inr (one-date-word word d day (subst (λ (w : List ℕ). IsDateWord w d) (sym last) named.stands) stands))
       (Contains-push_cases done word named.word named.listed),
   λ h. ⊎_elim
       (λ named. record { word = named.word; listed = Contains-append_left done (word ∷ []) named.word named.listed; stands = named.stands })
-      (λ is. record { word = word; listed = Contains-push done word; stands = subst (λ (n : ℕ). StandsInYymmdd word n) (sym is) stands }) h,
+      (λ is. record { word = word; listed = Contains-push done word; stands = subst (λ (n : ℕ). IsDateWord word n) (sym is) stands }) h,
 )
 
 pub more-day : (a b e : Holidays) (code : HolidayCode) (done : List (List ℕ)) (word : List ℕ) (day : ℕ) → HasMore a code (NamesDay done) b
-    → HasMore b code (λ d. d ≡ day) e → StandsInYymmdd word day → HasMore a code (NamesDay (done ++ word ∷ [])) e
+    → HasMore b code (λ d. d ≡ day) e → IsDateWord word day → HasMore a code (NamesDay (done ++ word ∷ [])) e
 more-day a b e code done word day one two stands =
     more-both a b e code (NamesDay done) (λ d. d ≡ day) (NamesDay (done ++ word ∷ [])) one two (names-push done word day stands)
 
@@ -167,7 +164,7 @@ dates-all old new code words done rest parts none dates more =
     let same : done ≡ words = sym (parts ∙ ap (λ l. done ++ l) none ∙ append-nil done) in
     subst (λ (l : List (List ℕ)). All IsDate l × HasMore old code (NamesDay l) new) same (dates, more)
 
-pub no-date : (words done rest : List (List ℕ)) (word : List ℕ) → words ≡ done ++ word ∷ rest → ((d : ℕ) → StandsInYymmdd word d → ⊥)
+pub no-date : (words done rest : List (List ℕ)) (word : List ℕ) → words ≡ done ++ word ∷ rest → ((d : ℕ) → IsDateWord word d → ⊥)
     → ¬ All IsDate words
 no-date words done rest word parts none dates =
     let (d, stands) = All-contains IsDate words word dates

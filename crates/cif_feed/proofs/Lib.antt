@@ -21,6 +21,7 @@ pub mod OwnParts
 pub mod PublishedLines
 pub mod PublishedTexts
 pub mod FittingUpdates
+pub mod UnreachedHolidays
 pub mod UpdatesInTurn
 pub mod PreparedFits
 pub mod PreparedRuns

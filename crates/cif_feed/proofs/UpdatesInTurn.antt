@@ -1,11 +1,12 @@
 -- An update that was read is done, or a line of it is refused; and updates are done one after another.
-use Rattle.cif_feed.proofs.Names.{AlreadyThere, AreAfter, AreRefused, AreRefusedLines, Bool, BytesSpellPublished, BytesSpellUpdate, Err}
+use Rattle.cif_feed.proofs.Names.{AlreadyThere, AreAfter, AreRefused, AreRefusedLines, BytesSpellPublished, BytesSpellUpdate, Err}
 use Rattle.cif_feed.proofs.Names.{FeedFault, FitsColumns, HandsOn, Header, IfOk, IsDone, IsFailure, IsLineRefused, IsUpdateFault}
 use Rattle.cif_feed.proofs.Names.{IsUpdateOf, IsUpdated, IsUpdatedBy, List, Makes, MatchResult, MayBeDone, NotThere, Ok}
 use Rattle.cif_feed.proofs.Names.{PublishedAssociation, PublishedParts, PublishedSchedule, RecordChange, RefusedLine, Refuses, Result, Some}
 use Rattle.cif_feed.proofs.Names.{Tiploc, Unread, UpdateParts, [], all_codes, ap, append-nil, append_assoc, append_cancel_left, changes_of}
 use Rattle.cif_feed.proofs.Names.{cond, contents_of, false, inr, last_line, length, of_profile, published_lines, published_text}
-use Rattle.cif_feed.proofs.Names.{reading_update, refl, refused_header, reported_once, same_values, slice_get, subst, sym, true≢false}
+use Rattle.cif_feed.proofs.Names.{reading_update, refl, refused_header, reported_once, same_values, subst, sym}
+use Rattle.cif_feed.{proofs.Names.None, specs.Waived.first_refused, specs.declared.changes.Waived.Waived}
 use Rattle.cif_feed.proofs.Names.{update_parts, updating, with_keys, ℕ, ⊎_elim, ◌++◌, ◌==◌, ◌↔◌, ◌∙◌, ◌∷◌, ◌≡◌, ◌≤◌}
 use Rattle.cif_feed.proofs.{ChangeLaws.after_all-alike, ChangeLaws.refusals-alike, ChangeLaws.same_alike, FittingUpdates.updated_fits}
 use Rattle.cif_feed.proofs.PublishedTexts.{may_any, published-lines, published-spells, said_fits}
@@ -59,31 +60,30 @@ one_list u old p q a b =
     ∙ ap (λ l. refused_header u old ++ reported_once 0 (b.tiplocs ++ (b.associations ++ l)))
     (one_refused _ old.schedules u.schedules a.schedules b.schedules a.of_schedules b.of_schedules) ∙ sym b.are
 
-module _ (lenient : Bool) (max : ℕ) (old new : PublishedParts) where
-  pub reads-updating : (f : FeedFault) → HandsOn (reading_update max) (updating lenient old new max) f
+module _ (how : Waived) (max : ℕ) (old new : PublishedParts) where
+  pub reads-updating : (f : FeedFault) → HandsOn (reading_update max) (updating how old new max) f
   reads-updating (OutOfSequence line) = record { fault = λ bytes after h. absurd h; answers = λ h. tt; same = refl }
   reads-updating (NotThere line) = record { fault = λ bytes after h. absurd h; answers = λ h. tt; same = refl }
   reads-updating (AlreadyThere line) = record { fault = λ bytes after h. absurd h; answers = λ h. tt; same = refl }
   reads-updating _ = record { fault = λ bytes after h. h; answers = λ h. h; same = refl }
 
   line_refused : (u : Update) (waived : List RefusedLine) → AreRefusedLines (update_parts u) old waived → (line : RefusedLine)
-      → (lenient ≡ false) × (slice_get waived 0 ≡ Some line) → (bytes : List ℕ) → IsUpdateOf max bytes u
-      → IsLineRefused lenient old max bytes line
+      → first_refused how waived ≡ Some line → (bytes : List ℕ) → IsUpdateOf max bytes u
+      → IsLineRefused how old max bytes line
   line_refused u waived refused line is bytes h = record {
-    strict = is.0;
     update = update_parts u;
     spelled = h.spelled;
     lines = waived;
     refused = refused;
-    first = is.1;
+    first = is;
   }
 
   -- an update that was read is done, or a line of it is refused
   pub updates : (u : Update) (waived : List RefusedLine) → IsUpdated (update_parts u) old new
-      → AreRefusedLines (update_parts u) old waived → (result : Result Outcome FeedFault) → IsDone lenient waived result
+      → AreRefusedLines (update_parts u) old waived → (result : Result Outcome FeedFault) → IsDone how waived result
       → IfOk result (λ done. (done.counts ≡ u.counts) × (done.passed ≡ u.passed))
-      → MatchResult result (Makes (reading_update max) (updating lenient old new max) u)
-      (Refuses (reading_update max) (updating lenient old new max) u)
+      → MatchResult result (Makes (reading_update max) (updating how old new max) u)
+      (Refuses (reading_update max) (updating how old new max) u)
   updates u waived updated refused (Ok done) is said = record {
     answer = λ bytes h. record {
       done = record {
@@ -91,7 +91,7 @@ module _ (lenient : Bool) (max : ℕ) (old new : PublishedParts) where
         spelled = h.spelled;
         updated = updated;
         refused = subst (AreRefusedLines (update_parts u) old) (sym is.0) refused;
-        strict = λ strict. is.0 ∙ is.1 strict;
+        all_waived = ap (first_refused how) is.0 ∙ is.1;
       };
       counts = said.0 ∙ h.counts;
       passed = said.1 ∙ h.passed;
@@ -116,18 +116,16 @@ module _ (lenient : Bool) (max : ℕ) (old new : PublishedParts) where
   updates u waived updated refused (Err _) is said = absurd is
 
 -- an update that may be done isn't refused
-module _ (lenient : Bool) (max : ℕ) (old : PublishedParts) (bytes : List ℕ) (after : Unread) (u : UpdateParts)
-    (s : BytesSpellUpdate max bytes u) (may : MayBeDone lenient old u) where
-  refused_no : (line : RefusedLine) → IsLineRefused lenient old max bytes line → ⊥
-  refused_no line h = ⊎_elim
-      (λ is. true≢false (sym is ∙ h.strict))
-      (λ none.
-      let same = one_update (contents_of bytes) u h.update s.spell h.spelled.spell in
-      let empty : h.lines ≡ [] = one_list h.update old h.lines [] h.refused (subst (λ w. AreRefusedLines w old []) same none) in
-      let no : slice_get [] 0 ≡ Some line = sym (ap (λ l. slice_get l 0) empty) ∙ h.first in cc)
-      may
+module _ (how : Waived) (max : ℕ) (old : PublishedParts) (bytes : List ℕ) (after : Unread) (u : UpdateParts)
+    (s : BytesSpellUpdate max bytes u) (may : MayBeDone how old u) where
+  refused_no : (line : RefusedLine) → IsLineRefused how old max bytes line → ⊥
+  refused_no line h =
+      let same = one_update (contents_of bytes) h.update u h.spelled.spell s.spell in
+      let none : first_refused how h.lines ≡ None = may h.lines (subst (λ w. AreRefusedLines w old h.lines) same h.refused) in
+      let some : first_refused how h.lines ≡ Some line = h.first in
+      cc
 
-  pub updated_blames_none : (f : FeedFault) → IsUpdateFault lenient old max bytes after f → IsFailure f
+  pub updated_blames_none : (f : FeedFault) → IsUpdateFault how old max bytes after f → IsFailure f
   updated_blames_none (OutOfSequence line) h = absurd (refused_no _ h)
   updated_blames_none (NotThere line) h = absurd (refused_no _ h)
   updated_blames_none (AlreadyThere line) h = absurd (refused_no _ h)
@@ -155,14 +153,14 @@ one_updated u old p q a b =
     ∙ ap (λ (v : List PublishedSchedule). record q { schedules = v })
     (one_after _ old.schedules u.schedules p.schedules q.schedules a.schedules b.schedules)
 
-module _ (lenient : Bool) (max : ℕ) where
+module _ (how : Waived) (max : ℕ) where
   record AreSame (p q : PublishedParts) (v w : List RefusedLine) : Type 0 where
     parts : p ≡ q
     lines : v ≡ w
 
   -- an update is done in one way
-  one_by : (old : PublishedParts) (bytes : List ℕ) (p q : PublishedParts) (v w : List RefusedLine) → IsUpdatedBy lenient old max bytes p v
-      → IsUpdatedBy lenient old max bytes q w → AreSame p q v w
+  one_by : (old : PublishedParts) (bytes : List ℕ) (p q : PublishedParts) (v w : List RefusedLine) → IsUpdatedBy how old max bytes p v
+      → IsUpdatedBy how old max bytes q w → AreSame p q v w
   one_by old bytes p q v w a b =
       let same = one_update (contents_of bytes) b.update a.update b.spelled.spell a.spelled.spell in
       record {
@@ -172,18 +170,18 @@ module _ (lenient : Bool) (max : ℕ) where
 
   -- and so are several
   one_done : (old : PublishedParts) (us : List (List ℕ)) (p q : PublishedParts) (v w : List RefusedLine)
-      → AreUpdatesDone lenient max old us p v → AreUpdatesDone lenient max old us q w → AreSame p q v w
+      → AreUpdatesDone how max old us p v → AreUpdatesDone how max old us q w → AreSame p q v w
   one_done old [] p q v w a b = record { parts = a.0 ∙ sym b.0; lines = a.1 ∙ sym b.1 }
   one_done old (u ∷ us) p q v w a b =
       let (mid, first, others, one, more, all) = a in
       let (mid₂, first₂, others₂, one₂, more₂, all₂) = b in
       let same = one_by old u mid mid₂ first first₂ one one₂ in
-      let rest = one_done mid us p q others others₂ more (subst (λ m. AreUpdatesDone lenient max m us q others₂) (sym same.parts) more₂) in
+      let rest = one_done mid us p q others others₂ more (subst (λ m. AreUpdatesDone how max m us q others₂) (sym same.parts) more₂) in
       record { parts = rest.parts; lines = all ∙ ap (λ l. l ++ others) same.lines ∙ ap (λ l. first₂ ++ l) rest.lines ∙ sym all₂ }
 
   -- what fits stays such
   done_fits : (old : PublishedParts) (us : List (List ℕ)) (new : PublishedParts) (w : List RefusedLine)
-      → AreUpdatesDone lenient max old us new w → FitsColumns (of_profile old) → FitsColumns (of_profile new)
+      → AreUpdatesDone how max old us new w → FitsColumns (of_profile old) → FitsColumns (of_profile new)
   done_fits old [] new w done fits = subst (λ p. FitsColumns (of_profile p)) (sym done.0) fits
   done_fits old (u ∷ us) new w done fits =
       let (mid, first, others, one, more, all) = done in
@@ -195,12 +193,12 @@ module _ (lenient : Bool) (max : ℕ) where
     mid : PublishedParts
     first : List RefusedLine
     later : List RefusedLine
-    one : AreUpdatesDone lenient max old us mid first
-    other : AreUpdatesDone lenient max mid vs new later
+    one : AreUpdatesDone how max old us mid first
+    other : AreUpdatesDone how max mid vs new later
     all : w ≡ first ++ later
 
   parted : (old : PublishedParts) (us vs : List (List ℕ)) (new : PublishedParts) (w : List RefusedLine)
-      → AreUpdatesDone lenient max old (us ++ vs) new w → AreDoneInTurn old us vs new w
+      → AreUpdatesDone how max old (us ++ vs) new w → AreDoneInTurn old us vs new w
   parted old [] vs new w done = record { mid = old; first = []; later = w; one = (refl, refl); other = done; all = refl }
   parted old (u ∷ us) vs new w done =
       let (next, first, others, one, more, all) = done in
@@ -215,11 +213,11 @@ module _ (lenient : Bool) (max : ℕ) where
       }
 
   joined : (old : PublishedParts) (us vs : List (List ℕ)) (mid new : PublishedParts) (v w : List RefusedLine)
-      → AreUpdatesDone lenient max old us mid v → AreUpdatesDone lenient max mid vs new w
-      → AreUpdatesDone lenient max old (us ++ vs) new (v ++ w)
+      → AreUpdatesDone how max old us mid v → AreUpdatesDone how max mid vs new w
+      → AreUpdatesDone how max old (us ++ vs) new (v ++ w)
   joined old [] vs mid new v w one other =
-      subst (λ l. AreUpdatesDone lenient max old vs new (l ++ w)) (sym one.1) (subst
-      (λ p. AreUpdatesDone lenient max p vs new w) one.0 other)
+      subst (λ l. AreUpdatesDone how max old vs new (l ++ w)) (sym one.1) (subst
+      (λ p. AreUpdatesDone how max p vs new w) one.0 other)
   joined old (u ∷ us) vs mid new v w one other =
       let (next, first, others, done, more, all) = one in (
         next,
@@ -234,34 +232,35 @@ module _ (lenient : Bool) (max : ℕ) where
 
   -- an update that is done isn't refused
   not_both : (old : PublishedParts) (u : List ℕ) (new : PublishedParts) (w : List RefusedLine) (fault : FeedFault)
-      → IsUpdatedBy lenient old max u new w → IsRefusedFor lenient max old u fault → ⊥
+      → IsUpdatedBy how old max u new w → IsRefusedFor how max old u fault → ⊥
   not_both old u new w fault done refused = ⊎_elim
       (λ first. let s = done.spelled in
       spelled_first feed.Update all_codes max (contents_of u) s.spell.lines s.within fault s.spell.spelled first)
       (λ some. by some.0 some.1)
       refused
     where
-      by : (line : RefusedLine) → IsLineRefused lenient old max u line → ⊥
+      by : (line : RefusedLine) → IsLineRefused how old max u line → ⊥
       by line r =
           let same = one_update (contents_of u) r.update done.update r.spelled.spell done.spelled.spell in
-          let none : r.lines ≡ [] =
-          one_list done.update old r.lines w (subst (λ x. AreRefusedLines x old r.lines) same r.refused) done.refused
-          ∙ done.strict r.strict in
-          let no : slice_get [] 0 ≡ Some line = sym (ap (λ l. slice_get l 0) none) ∙ r.first in cc
+          let lines : r.lines ≡ w =
+          one_list done.update old r.lines w (subst (λ x. AreRefusedLines x old r.lines) same r.refused) done.refused in
+          let none : first_refused how r.lines ≡ None = ap (first_refused how) lines ∙ done.all_waived in
+          let some : first_refused how r.lines ≡ Some line = r.first in
+          cc
 
   -- behind updates that are done it is one of the others
   refused_later : (old : PublishedParts) (us vs : List (List ℕ)) (mid : PublishedParts) (w : List RefusedLine) (fault : FeedFault)
-      → AreUpdatesDone lenient max old us mid w → IsOneRefused lenient max old (us ++ vs) fault ↔ IsOneRefused lenient max mid vs fault
+      → AreUpdatesDone how max old us mid w → IsOneRefused how max old (us ++ vs) fault ↔ IsOneRefused how max mid vs fault
   refused_later old [] vs mid w fault done = (
-    subst (λ p. IsOneRefused lenient max p vs fault) (sym done.0),
-    subst (λ p. IsOneRefused lenient max p vs fault) done.0,
+    subst (λ p. IsOneRefused how max p vs fault) (sym done.0),
+    subst (λ p. IsOneRefused how max p vs fault) done.0,
   )
   refused_later old (u ∷ us) vs mid w fault done =
       let (next, first, others, one, more, all) = done in
       let later = refused_later next us vs mid others fault more in (
         λ refused. ⊎_elim
             (λ here. absurd (not_both old u next first fault one here))
-            (λ some. later.0 (subst (λ p. IsOneRefused lenient max p (us ++ vs) fault)
+            (λ some. later.0 (subst (λ p. IsOneRefused how max p (us ++ vs) fault)
             (one_by old u some.0 next some.1 first some.2 one).parts some.3))
             refused,
         λ refused. inr (next, first, one, later.1 refused),
@@ -270,7 +269,7 @@ module _ (lenient : Bool) (max : ℕ) where
   -- ---- as bytes
 
   module _ (full : List ℕ) (us : List (List ℕ)) (between : List ℕ) (waived : List RefusedLine)
-      (written : IsWritten lenient max full us between waived) (within : length (contents_of between) ≤ max) where
+      (written : IsWritten how max full us between waived) (within : length (contents_of between) ≤ max) where
     fits : FitsColumns (of_profile written.new)
     fits =
         done_fits written.old us written.new waived written.done (said_fits all_codes (contents_of full) written.old written.spelled.spell)
@@ -291,20 +290,20 @@ module _ (lenient : Bool) (max : ℕ) where
     same_start p s = one_published all_codes (contents_of full) p written.old s.spell written.spelled.spell
 
     pub in_turn : (vs : List (List ℕ)) (out : List ℕ) (later : List RefusedLine)
-        → IsWritten lenient max full (us ++ vs) out (waived ++ later) ↔ IsWritten lenient max between vs out later
+        → IsWritten how max full (us ++ vs) out (waived ++ later) ↔ IsWritten how max between vs out later
     in_turn vs out later = (
       λ all.
           let two = parted all.old us vs all.new (waived ++ later) all.done in
           let one = one_done written.old us two.mid written.new two.first waived
-          (subst (λ p. AreUpdatesDone lenient max p us two.mid two.first) (same_start all.old all.spelled) two.one) written.done in
+          (subst (λ p. AreUpdatesDone how max p us two.mid two.first) (same_start all.old all.spelled) two.one) written.done in
           let rest : two.later ≡ later = append_cancel_left waived two.later later (ap (λ l. l ++ two.later) (sym one.lines)
           ∙ sym two.all) in
           record {
             old = written.new;
             spelled = read_again;
             new = all.new;
-            done = subst (λ l. AreUpdatesDone lenient max written.new vs all.new l) rest
-                (subst (λ p. AreUpdatesDone lenient max p vs all.new two.later) one.parts two.other);
+            done = subst (λ l. AreUpdatesDone how max written.new vs all.new l) rest
+                (subst (λ p. AreUpdatesDone how max p vs all.new two.later) one.parts two.other);
             text = all.text;
           },
       λ second. record {
@@ -312,48 +311,48 @@ module _ (lenient : Bool) (max : ℕ) where
         spelled = written.spelled;
         new = second.new;
         done = joined written.old us vs written.new second.new waived later written.done
-            (subst (λ p. AreUpdatesDone lenient max p vs second.new later) (same_read second.old second.spelled) second.done);
+            (subst (λ p. AreUpdatesDone how max p vs second.new later) (same_read second.old second.spelled) second.done);
         text = second.text;
       },
     )
 
     pub refused_in_turn : (vs : List (List ℕ)) (fault : FeedFault)
-        → IsRefused lenient max full (us ++ vs) fault ↔ IsRefused lenient max between vs fault
+        → IsRefused how max full (us ++ vs) fault ↔ IsRefused how max between vs fault
     refused_in_turn vs fault =
         let later = refused_later written.old us vs written.new waived fault written.done in (
           λ all. record {
             old = written.new;
             spelled = read_again;
-            refused = later.0 (subst (λ p. IsOneRefused lenient max p (us ++ vs) fault) (same_start all.old all.spelled) all.refused);
+            refused = later.0 (subst (λ p. IsOneRefused how max p (us ++ vs) fault) (same_start all.old all.spelled) all.refused);
           },
           λ second. record {
             old = written.old;
             spelled = written.spelled;
-            refused = later.1 (subst (λ p. IsOneRefused lenient max p vs fault) (same_read second.old second.spelled) second.refused);
+            refused = later.1 (subst (λ p. IsOneRefused how max p vs fault) (same_read second.old second.spelled) second.refused);
           },
         )
 
   -- one text is written at most
-  pub one_written : (full : List ℕ) (us : List (List ℕ)) (b c : List ℕ) (v w : List RefusedLine) → IsWritten lenient max full us b v
-      → IsWritten lenient max full us c w → (b ≡ c) × (v ≡ w)
+  pub one_written : (full : List ℕ) (us : List (List ℕ)) (b c : List ℕ) (v w : List RefusedLine) → IsWritten how max full us b v
+      → IsWritten how max full us c w → (b ≡ c) × (v ≡ w)
   one_written full us b c v w p q =
       let start = one_published all_codes (contents_of full) q.old p.old q.spelled.spell p.spelled.spell in
-      let same = one_done p.old us p.new q.new v w p.done (subst (λ x. AreUpdatesDone lenient max x us q.new w) start q.done) in
+      let same = one_done p.old us p.new q.new v w p.done (subst (λ x. AreUpdatesDone how max x us q.new w) start q.done) in
       (p.text ∙ ap published_text same.parts ∙ sym q.text, same.lines)
 
   -- and none, if one is refused
   none_written : (old : PublishedParts) (us : List (List ℕ)) (new : PublishedParts) (w : List RefusedLine) (fault : FeedFault)
-      → AreUpdatesDone lenient max old us new w → IsOneRefused lenient max old us fault → ⊥
+      → AreUpdatesDone how max old us new w → IsOneRefused how max old us fault → ⊥
   none_written old [] new w fault done refused = refused
   none_written old (u ∷ us) new w fault done refused =
       let (next, first, others, one, more, all) = done in ⊎_elim
       (λ here. not_both old u next first fault one here)
-      (λ some. none_written next us new others fault more (subst (λ p. IsOneRefused lenient max p us fault)
+      (λ some. none_written next us new others fault more (subst (λ p. IsOneRefused how max p us fault)
       (one_by old u some.0 next some.1 first some.2 one).parts some.3))
       refused
 
   pub not_refused : (full : List ℕ) (us : List (List ℕ)) (b : List ℕ) (w : List RefusedLine) (fault : FeedFault)
-      → IsWritten lenient max full us b w → IsRefused lenient max full us fault → ⊥
+      → IsWritten how max full us b w → IsRefused how max full us fault → ⊥
   not_refused full us b w fault p q =
       let start = one_published all_codes (contents_of full) q.old p.old q.spelled.spell p.spelled.spell in
-      none_written p.old us p.new w fault p.done (subst (λ x. IsOneRefused lenient max x us fault) start q.refused)
+      none_written p.old us p.new w fault p.done (subst (λ x. IsOneRefused how max x us fault) start q.refused)

@@ -1,5 +1,6 @@
 -- What comes of the sources of `update`, where the bytes that their readers give are known.
-use Rattle.cif_feed.proofs.Names.{AlreadyThere, BadTransaction, Bool, BytesSpellPublished, Err, FeedFault, HasFailed, HasWritten, IfErr}
+use Rattle.cif_feed.specs.declared.changes.Waived.{Waived}
+use Rattle.cif_feed.proofs.Names.{AlreadyThere, BadTransaction, BytesSpellPublished, Err, FeedFault, HasFailed, HasWritten, IfErr}
 use Rattle.cif_feed.proofs.Names.{IfOk, IfSome, IsDeviceOrMemory, IsPublishedOf, IsResultOf, List, MatchResult, NotThere, NotUpdate, Ok}
 use Rattle.cif_feed.proofs.Names.{Option, PublishedExtract, PublishedParts, Result, Sink, Some, Source, Unread, Writes, [], all_codes, ap}
 use Rattle.cif_feed.proofs.Names.{append-nil, append_assoc, goes-on, inl, inr, list_any, not, published_parts, published_text, reader_of}
@@ -26,36 +27,36 @@ module _ {A F R : Type 0} (may : ReadCall A F) (remaining : R → Option (List �
   fault-of f call = subst (λ o. IfSome o (λ b. may.IsFault b (unread_of remaining new) f)) known call.fault
 
 -- why one update isn't done
-update-refused : (lenient : Bool) (old : PublishedParts) (bytes : List ℕ) (after : Unread) (f : FeedFault) →
-    IsOneUpdateFault lenient old MAX_LINES bytes after f → IsDeviceOrMemory f ⊎ IsRefusedFor lenient MAX_LINES old bytes f
-update-refused lenient old bytes after (Extract (Refused line why)) h = inr (inl h.0)
-update-refused lenient old bytes after (Extract Read) h = inl tt
-update-refused lenient old bytes after (Extract Memory) h = inl tt
-update-refused lenient old bytes after (Extract _) h = absurd h
-update-refused lenient old bytes after (NotUpdate line) h = inr (inl h.0)
-update-refused lenient old bytes after (BadTransaction line) h = inr (inl h.0)
-update-refused lenient old bytes after (BadHoliday line) h = absurd h
-update-refused lenient old bytes after (OutOfSequence line) h = inr (inr (record { line = line; why = unfit.OutOfSequence }, h, refl))
-update-refused lenient old bytes after (NotThere line) h = inr (inr (record { line = line; why = unfit.NotThere }, h, refl))
-update-refused lenient old bytes after (AlreadyThere line) h = inr (inr (record { line = line; why = unfit.AlreadyThere }, h, refl))
+update-refused : (how : Waived) (old : PublishedParts) (bytes : List ℕ) (after : Unread) (f : FeedFault) →
+    IsOneUpdateFault how old MAX_LINES bytes after f → IsDeviceOrMemory f ⊎ IsRefusedFor how MAX_LINES old bytes f
+update-refused how old bytes after (Extract (Refused line why)) h = inr (inl h.0)
+update-refused how old bytes after (Extract Read) h = inl tt
+update-refused how old bytes after (Extract Memory) h = inl tt
+update-refused how old bytes after (Extract _) h = absurd h
+update-refused how old bytes after (NotUpdate line) h = inr (inl h.0)
+update-refused how old bytes after (BadTransaction line) h = inr (inl h.0)
+update-refused how old bytes after (BadHoliday line) h = absurd h
+update-refused how old bytes after (OutOfSequence line) h = inr (inr (record { line = line; why = unfit.OutOfSequence }, h, refl))
+update-refused how old bytes after (NotThere line) h = inr (inr (record { line = line; why = unfit.NotThere }, h, refl))
+update-refused how old bytes after (AlreadyThere line) h = inr (inr (record { line = line; why = unfit.AlreadyThere }, h, refl))
 
-module _ {R : Type 0} (remaining : R → Option (List ℕ)) (errors : R → Option ℕ) (lenient : Bool) where
+module _ {R : Type 0} (remaining : R → Option (List ℕ)) (errors : R → Option ℕ) (how : Waived) where
   -- updates that are done are done to the extract in turn
   pub done-in-turn : (sources after : List (Source R)) (old new : PublishedParts) (done : List DoneUpdate) (given : List (List ℕ)) →
-      AreDoneInTurn remaining errors lenient old new sources after done (Ok tt) → AreGiven remaining sources given →
-      AreUpdatesDone lenient MAX_LINES old given new (waived_by done)
+      AreDoneInTurn remaining errors how old new sources after done (Ok tt) → AreGiven remaining sources given →
+      AreUpdatesDone how MAX_LINES old given new (waived_by done)
       × (list_any (λ (u : DoneUpdate). have_marks u.outcome.counts) done ≡ list_any (λ g. have_marks (counts_in g)) given)
   done-in-turn [] after old new done given h are = (
-    subst (λ g. AreUpdatesDone lenient MAX_LINES old g new (waived_by done)) (sym are) (h.2, ap waived_by h.3),
+    subst (λ g. AreUpdatesDone how MAX_LINES old g new (waived_by done)) (sym are) (h.2, ap waived_by h.3),
     ap (list_any (λ (u : DoneUpdate). have_marks u.outcome.counts)) h.3 ∙ ap (list_any (λ g. have_marks (counts_in g))) (sym are),
   )
   done-in-turn (s ∷ ss) after old new done given (read, others, is, mid, way) (bytes, more, same, known, are) =
-      subst (λ g. AreUpdatesDone lenient MAX_LINES old g new (waived_by done)
+      subst (λ g. AreUpdatesDone how MAX_LINES old g new (waived_by done)
       × (list_any (λ (u : DoneUpdate). have_marks u.outcome.counts) done ≡ list_any (λ l. have_marks (counts_in l)) g)) (sym same)
       (⊎_elim (λ no. let e : Ok tt ≡ Err no.0 = no.1 in absurd (cc))
       (λ on.
-      let one : IsOutcomeOf lenient old MAX_LINES bytes mid on.0.outcome =
-      answer-of (updating lenient old mid MAX_LINES) remaining errors s read bytes known on.0.outcome on.4 in
+      let one : IsOutcomeOf how old MAX_LINES bytes mid on.0.outcome =
+      answer-of (updating how old mid MAX_LINES) remaining errors s read bytes known on.0.outcome on.4 in
       let further = done-in-turn ss others mid new on.1 more on.5 are in (
         (mid, on.0.outcome.waived.items, waived_by on.1, one.done, further.0, ap waived_by on.2),
         ap (list_any (λ (u : DoneUpdate). have_marks u.outcome.counts)) on.2
@@ -65,71 +66,71 @@ module _ {R : Type 0} (remaining : R → Option (List ℕ)) (errors : R → Opti
 
   -- or one isn't, for this
   pub refused-in-turn : (sources after : List (Source R)) (old new : PublishedParts) (done : List DoneUpdate) (given : List (List ℕ))
-      (f : FeedFault) → AreDoneInTurn remaining errors lenient old new sources after done (Err f) → AreGiven remaining sources given →
-      IsDeviceOrMemory f ⊎ IsOneRefused lenient MAX_LINES old given f
+      (f : FeedFault) → AreDoneInTurn remaining errors how old new sources after done (Err f) → AreGiven remaining sources given →
+      IsDeviceOrMemory f ⊎ IsOneRefused how MAX_LINES old given f
   refused-in-turn [] after old new done given f h are = absurd h.1
   refused-in-turn (s ∷ ss) after old new done given f (read, others, is, mid, way) (bytes, more, same, known, are) =
-      subst (λ g. IsDeviceOrMemory f ⊎ IsOneRefused lenient MAX_LINES old g f) (sym same)
+      subst (λ g. IsDeviceOrMemory f ⊎ IsOneRefused how MAX_LINES old g f) (sym same)
       (⊎_elim refused (λ on. later on.0.outcome on.4 (refused-in-turn ss others mid new on.1 more f on.5 are)) way)
     where
       refused : (fault : FeedFault) × (◌≡◌ {A = Result (Unit {0}) FeedFault} (Err f) (Err fault)) × (others ≡ ss)
-          × IsResultOf remaining errors (updating lenient old mid MAX_LINES) s read (Err fault)
-          → IsDeviceOrMemory f ⊎ IsOneRefused lenient MAX_LINES old (bytes ∷ more) f
+          × IsResultOf remaining errors (updating how old mid MAX_LINES) s read (Err fault)
+          → IsDeviceOrMemory f ⊎ IsOneRefused how MAX_LINES old (bytes ∷ more) f
       refused (fault, is, still, call) =
           let same : fault ≡ f = cc in
           ⊎_elim inl (λ h. inr (inl h))
-          (update-refused lenient old bytes _ f (subst (IsOneUpdateFault lenient old MAX_LINES bytes _) same
-          (fault-of (updating lenient old mid MAX_LINES) remaining errors s read bytes known fault call)))
+          (update-refused how old bytes _ f (subst (IsOneUpdateFault how old MAX_LINES bytes _) same
+          (fault-of (updating how old mid MAX_LINES) remaining errors s read bytes known fault call)))
 
-      later : (outcome : Outcome) → IsResultOf remaining errors (updating lenient old mid MAX_LINES) s read (Ok outcome) →
-          IsDeviceOrMemory f ⊎ IsOneRefused lenient MAX_LINES mid more f →
-          IsDeviceOrMemory f ⊎ IsOneRefused lenient MAX_LINES old (bytes ∷ more) f
+      later : (outcome : Outcome) → IsResultOf remaining errors (updating how old mid MAX_LINES) s read (Ok outcome) →
+          IsDeviceOrMemory f ⊎ IsOneRefused how MAX_LINES mid more f →
+          IsDeviceOrMemory f ⊎ IsOneRefused how MAX_LINES old (bytes ∷ more) f
       later outcome call =
-          let one : IsOutcomeOf lenient old MAX_LINES bytes mid outcome =
-          answer-of (updating lenient old mid MAX_LINES) remaining errors s read bytes known outcome call in
+          let one : IsOutcomeOf how old MAX_LINES bytes mid outcome =
+          answer-of (updating how old mid MAX_LINES) remaining errors s read bytes known outcome call in
           ⊎_elim inl (λ h. inr (inr (mid, outcome.waived.items, one.done, h)))
 
   -- whatever the readers give, no other fault comes
   pub faults-in-turn : (sources after : List (Source R)) (old new : PublishedParts) (done : List DoneUpdate) (f : FeedFault) →
-      AreDoneInTurn remaining errors lenient old new sources after done (Err f) → IsOfUpdate MAX_LINES f
+      AreDoneInTurn remaining errors how old new sources after done (Err f) → IsOfUpdate MAX_LINES f
   faults-in-turn [] after old new done f h = absurd h.1
   faults-in-turn (s ∷ ss) after old new done f (read, others, is, mid, way) =
       ⊎_elim (λ no. let same : no.0 ≡ f = cc in
-      let call : IsResultOf remaining errors (updating lenient old mid MAX_LINES) s read (Err no.0) = no.3 in
+      let call : IsResultOf remaining errors (updating how old mid MAX_LINES) s read (Err no.0) = no.3 in
       subst (IsOfUpdate MAX_LINES) same call.answers)
       (λ on. faults-in-turn ss others mid new on.1 f on.5) way
 
 -- an update that was done isn't listed where memory runs out
-pub none-listed : {R : Type 0} (remaining : R → Option (List ℕ)) (errors : R → Option ℕ) (lenient : Bool) (old new : PublishedParts)
-    (s t : Source R) (outcome : Outcome) → IsResultOf remaining errors (updating lenient old new MAX_LINES) s t (Ok outcome) →
-    IsResultOf remaining errors (updating lenient old new MAX_LINES) s t (Err (Extract Memory))
-none-listed remaining errors lenient old new s t outcome call =
-    goes-on (updating lenient old new MAX_LINES) (updating lenient old new MAX_LINES) remaining errors s t outcome call
+pub none-listed : {R : Type 0} (remaining : R → Option (List ℕ)) (errors : R → Option ℕ) (how : Waived) (old new : PublishedParts)
+    (s t : Source R) (outcome : Outcome) → IsResultOf remaining errors (updating how old new MAX_LINES) s t (Ok outcome) →
+    IsResultOf remaining errors (updating how old new MAX_LINES) s t (Err (Extract Memory))
+none-listed remaining errors how old new s t outcome call =
+    goes-on (updating how old new MAX_LINES) (updating how old new MAX_LINES) remaining errors s t outcome call
     (Err (Extract Memory)) (record { fault = λ bytes after is. tt; answers = tt; other = refl })
 
 -- ---- no source, and one source more
 
-pub none-done : {R : Type 0} (remaining : R → Option (List ℕ)) (errors : R → Option ℕ) (lenient : Bool) (old : PublishedParts)
-    (sources : List (Source R)) → sources ≡ [] → AreDoneInTurn remaining errors lenient old old sources sources [] (Ok tt)
-none-done remaining errors lenient old sources is =
-    subst (λ l. AreDoneInTurn remaining errors lenient old old l l [] (Ok tt)) (sym is) (refl, tt, refl, refl)
+pub none-done : {R : Type 0} (remaining : R → Option (List ℕ)) (errors : R → Option ℕ) (how : Waived) (old : PublishedParts)
+    (sources : List (Source R)) → sources ≡ [] → AreDoneInTurn remaining errors how old old sources sources [] (Ok tt)
+none-done remaining errors how old sources is =
+    subst (λ l. AreDoneInTurn remaining errors how old old l l [] (Ok tt)) (sym is) (refl, tt, refl, refl)
 
-module _ {R : Type 0} (remaining : R → Option (List ℕ)) (errors : R → Option ℕ) (lenient : Bool) (old mid : PublishedParts)
+module _ {R : Type 0} (remaining : R → Option (List ℕ)) (errors : R → Option ℕ) (how : Waived) (old mid : PublishedParts)
     (sources : List (Source R)) (s t : Source R) (ss : List (Source R)) (is : sources ≡ s ∷ ss) where
   pub stops-there : (result : Result (Unit {0}) FeedFault) (f : FeedFault) → result ≡ Err f →
-      IsResultOf remaining errors (updating lenient old mid MAX_LINES) s t (Err f) →
-      AreDoneInTurn remaining errors lenient old mid sources (t ∷ ss) [] result
+      IsResultOf remaining errors (updating how old mid MAX_LINES) s t (Err f) →
+      AreDoneInTurn remaining errors how old mid sources (t ∷ ss) [] result
   stops-there result f err call =
-      subst (λ l. AreDoneInTurn remaining errors lenient old mid l (t ∷ ss) [] result) (sym is)
+      subst (λ l. AreDoneInTurn remaining errors how old mid l (t ∷ ss) [] result) (sym is)
       (t, ss, refl, mid, inl (f, err, refl, call))
 
   pub goes-further : (first : DoneUpdate) (new : PublishedParts) (after : List (Source R)) (later : List DoneUpdate)
       (result : Result (Unit {0}) FeedFault) → first.header ≡ mid.header →
-      IsResultOf remaining errors (updating lenient old mid MAX_LINES) s t (Ok first.outcome) →
-      AreDoneInTurn remaining errors lenient mid new ss after later result →
-      AreDoneInTurn remaining errors lenient old new sources (t ∷ after) (first ∷ later) result
+      IsResultOf remaining errors (updating how old mid MAX_LINES) s t (Ok first.outcome) →
+      AreDoneInTurn remaining errors how mid new ss after later result →
+      AreDoneInTurn remaining errors how old new sources (t ∷ after) (first ∷ later) result
   goes-further first new after later result header call on =
-      subst (λ l. AreDoneInTurn remaining errors lenient old new l (t ∷ after) (first ∷ later) result) (sym is)
+      subst (λ l. AreDoneInTurn remaining errors how old new l (t ∷ after) (first ∷ later) result) (sym is)
       (t, after, refl, mid, inr (first, later, refl, header, call, on))
 
 pub listed-further : (known mid all : List DoneUpdate) (first : DoneUpdate) (later : List DoneUpdate)
@@ -170,16 +171,16 @@ finished contents errors text old mid new (Err f) result w h =
     (refl, subst (λ s. HasFailed contents errors text old s) (sym h.1) w)
 
 module _ {R W A : Type 0} (remaining : R → Option (List ℕ)) (errors : R → Option ℕ) (contents : W → Option (List ℕ))
-    (write_errors : W → Option ℕ) (reported : A → UpdateReported) (listed : A → List DoneUpdate) (lenient : Bool) (codes : HolidayCodes)
+    (write_errors : W → Option ℕ) (reported : A → UpdateReported) (listed : A → List DoneUpdate) (how : Waived) (codes : HolidayCodes)
     (all : codes ≡ all_codes)
     (full full_new : Source R) (extract : PublishedExtract)
     (read : IsResultOf remaining errors (reading_published codes MAX_LINES) full full_new (Ok extract)) (x : PublishedExtract)
     (same : x ≡ extract) (new : PublishedParts) (updates updates_new : List (Source R)) (these : List DoneUpdate) where
   abbrev InTurn : Result (Unit {0}) FeedFault → Type 0
-  InTurn = AreDoneInTurn remaining errors lenient (published_parts x) new updates updates_new these
+  InTurn = AreDoneInTurn remaining errors how (published_parts x) new updates updates_new these
 
   abbrev Answer : List ℕ → Option UpdateReported → Type 0
-  Answer text reported = OfUpdates remaining (λ bytes given. IsReported (IsUpdateAnswer lenient bytes given text) reported) full updates
+  Answer text reported = OfUpdates remaining (λ bytes given. IsReported (IsUpdateAnswer how bytes given text) reported) full updates
 
   abbrev reported-here : UpdateReported
   reported-here = record {
@@ -198,14 +199,14 @@ module _ {R W A : Type 0} (remaining : R → Option (List ℕ)) (errors : R → 
       (let is = published bytes known in is.spelled)
 
   read-first : (done : Result (Unit {0}) FeedFault) (result : Result A FeedFault) → InTurn done → EndsAs listed these done result →
-      AreUpdatesRead remaining errors listed lenient full full_new updates updates_new result
+      AreUpdatesRead remaining errors listed how full full_new updates updates_new result
   read-first done result turn ends = inr (
     extract,
     new,
     these,
     done,
     call,
-    subst (λ e. AreDoneInTurn remaining errors lenient (published_parts e) new updates updates_new these done) same turn,
+    subst (λ e. AreDoneInTurn remaining errors how (published_parts e) new updates updates_new these done) same turn,
     ends,
   )
 
@@ -214,21 +215,21 @@ module _ {R W A : Type 0} (remaining : R → Option (List ℕ)) (errors : R → 
     pub undone-answer : (sink : Sink W) → FeedAnswers contents write_errors reported Answer sink sink result
     undone-answer sink = subst (FeedAnswers contents write_errors reported Answer sink sink) (sym is)
         (silent contents write_errors reported Answer sink f
-        (faults-in-turn remaining errors lenient updates updates_new (published_parts x) new these f turn))
+        (faults-in-turn remaining errors how updates updates_new (published_parts x) new these f turn))
 
-    pub undone-fault : OfUpdates remaining (λ bytes given. IfErr result (IsUpdateFault lenient bytes given)) full updates
-    undone-fault bytes given known are = subst (λ r. IfErr r (IsUpdateFault lenient bytes given)) (sym is)
+    pub undone-fault : OfUpdates remaining (λ bytes given. IfErr result (IsUpdateFault how bytes given)) full updates
+    undone-fault bytes given known are = subst (λ r. IfErr r (IsUpdateFault how bytes given)) (sym is)
         (⊎_elim inl (λ h. inr (inr record { old = published_parts x; spelled = spelled bytes known; refused = h }))
-        (refused-in-turn remaining errors lenient updates updates_new (published_parts x) new these given f turn are))
+        (refused-in-turn remaining errors how updates updates_new (published_parts x) new these given f turn are))
 
-    pub undone-reads : AreUpdatesRead remaining errors listed lenient full full_new updates updates_new result
+    pub undone-reads : AreUpdatesRead remaining errors listed how full full_new updates updates_new result
     undone-reads = read-first (Err f) result turn is
 
   -- all are
   module _ (turn : InTurn (Ok tt)) where
     written : Answer (published_text new) (Some reported-here)
     written bytes given known are =
-        let both = done-in-turn remaining errors lenient updates updates_new (published_parts x) new these given turn are in
+        let both = done-in-turn remaining errors how updates updates_new (published_parts x) new these given turn are in
         let is = published bytes known in
         record {
           written = record { old = published_parts x; spelled = spelled bytes known; new = new; done = both.0; text = refl };
@@ -256,11 +257,11 @@ module _ {R W A : Type 0} (remaining : R → Option (List ℕ)) (errors : R → 
         }
 
     pub ended-fault : (old after : Sink W) (result : Result A FeedFault) → Ends old after result →
-        OfUpdates remaining (λ bytes given. IfErr result (IsUpdateFault lenient bytes given)) full updates
+        OfUpdates remaining (λ bytes given. IfErr result (IsUpdateFault how bytes given)) full updates
     ended-fault old after (Ok a) w bytes given known are = tt
-    ended-fault old after (Err f) w bytes given known are = subst (IsUpdateFault lenient bytes given) (sym w.0) (inl tt)
+    ended-fault old after (Err f) w bytes given known are = subst (IsUpdateFault how bytes given) (sym w.0) (inl tt)
 
     pub ended-reads : ((a : A) → listed a ≡ these) → (old after : Sink W) (result : Result A FeedFault) → Ends old after result →
-        AreUpdatesRead remaining errors listed lenient full full_new updates updates_new result
+        AreUpdatesRead remaining errors listed how full full_new updates updates_new result
     ended-reads is old after (Ok a) w = read-first (Ok tt) (Ok a) turn (is a, tt)
     ended-reads is old after (Err f) w = read-first (Ok tt) (Err f) turn (tt, w.0)

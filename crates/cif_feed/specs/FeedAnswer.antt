@@ -6,10 +6,12 @@ use Rattle.cif_columns.specs.declared.{line_reader.TheConstants.MAX_LINES, sink.
 use Rattle.cif_extract.specs.{ReadCall.IsResultOf, ReadCall.ReadCall, ReadCall.reading, declared.fault.Fault.TheVariants.Write}
 use Rattle.cif_feed.specs.{Counts.counts_of, Counts.have_marks, FeedFault.is_feed_read, FeedFault.of_holiday_fault, UpdatesInTurn.IsWritten}
 use Rattle.cif_feed.specs.{FeedRefusal.IsFirstOfFeed, HolidayCode.all_codes, Holidays.Names, Updated.updating, UpdatesInTurn.IsRefused}
+use Rattle.cif_feed.specs.Unreached.{all_unreached, unreached_of}
+use Rattle.cif_feed.specs.declared.{prepare.KeptPrepare.KeptPrepare, unreached.Unreached.Unreached}
 use Rattle.cif_feed.specs.HolidayText.{IsFirstBadLine, IsHolidayFault, IsOfHolidays, SpellHolidays}
 use Rattle.cif_feed.specs.PublishedParts.{PublishedParts, published_parts, reading_published}
 use Rattle.cif_feed.specs.WrittenPrepared.{FeedWrites, IsDeviceOrMemory, IsPreparedText, codes_named, preparing}
-use Rattle.cif_feed.specs.declared.{changes.RefusedLine.RefusedLine, dropped.Dropped.Dropped, feed_fault.FeedFault.FeedFault}
+use Rattle.cif_feed.specs.declared.{changes.RefusedLine.RefusedLine, changes.Waived.Waived, dropped.Dropped.Dropped, feed_fault.FeedFault.FeedFault}
 use Rattle.cif_feed.specs.declared.{feed_fault.FeedFault.TheVariants.BadHoliday, feed_fault.FeedFault.TheVariants.Extract}
 use Rattle.cif_feed.specs.declared.{feed_line.Feed.TheVariants.Full, holiday_text.HolidayFault.HolidayFault}
 use Rattle.cif_feed.specs.declared.{holidays.HolidayCode.HolidayCode, holidays.Holidays.Holidays, mark.UpdateCounts.UpdateCounts}
@@ -64,11 +66,20 @@ abbrev pub AreHolidaysOf : Option (List ℕ) → Holidays → Type 0
 AreHolidaysOf None h = (code : HolidayCode) → ¬ Names h code
 AreHolidaysOf (Some bytes) h = SpellHolidays bytes h
 
--- `prepare` answers these bytes of holidays and of a published extract by the text of its prepared extract, and reports what was dropped
-pub record IsPrepareAnswer (drops : Bool) (given : Option (List ℕ)) (bytes text : List ℕ) (dropped : Dropped) : Type 0 where
+-- what `prepare` reports beside the text: of each code the holidays that don't reach the window, and what was dropped
+pub record PrepareReported : Type 0 where
+  pub unreached : List (Option Unreached)
+  pub dropped : Dropped
+
+abbrev pub prepare_reported : KeptPrepare → Dropped → PrepareReported
+prepare_reported kept dropped = record { unreached = unreached_of kept; dropped = dropped }
+
+-- `prepare` answers these bytes of holidays and of a published extract by the text of its prepared extract, and reports this
+pub record IsPrepareAnswer (drops : Bool) (given : Option (List ℕ)) (bytes text : List ℕ) (reported : PrepareReported) : Type 0 where
   pub holidays : Holidays
   pub spelled : AreHolidaysOf given holidays
-  pub prepared : IsPreparedText holidays drops MAX_LINES bytes text dropped
+  pub prepared : IsPreparedText holidays drops MAX_LINES bytes text reported.dropped
+  pub unreached : reported.unreached ≡ all_unreached holidays prepared.published
 
 -- the first bad line of the holidays that are given
 abbrev pub IsBadHoliday : Option (List ℕ) → FeedFault → Type 0
@@ -141,9 +152,9 @@ abbrev pub reported_of : KeptUpdate → UpdateReported
 reported_of kept = record { as_prepared = looks_prepared kept; waived = waived_by kept.done.items }
 
 -- `update` answers the bytes of a full extract and of updates by this text, and reports this
-pub record IsUpdateAnswer (lenient : Bool) (full : List ℕ) (updates : List (List ℕ)) (text : List ℕ) (reported : UpdateReported)
+pub record IsUpdateAnswer (how : Waived) (full : List ℕ) (updates : List (List ℕ)) (text : List ℕ) (reported : UpdateReported)
     : Type 0 where
-  pub written : IsWritten lenient MAX_LINES full updates text reported.waived
+  pub written : IsWritten how MAX_LINES full updates text reported.waived
   pub as_prepared : reported.as_prepared ≡ is_as_prepared full updates
 
 -- these are the bytes that the readers of the sources give
@@ -159,33 +170,33 @@ OfUpdates remaining P full updates = (bytes : List ℕ) (given : List (List ℕ)
 
 -- why `update` has no answer to these bytes: FULL's first refusal, or why one of the updates isn't done; or a device failed, or memory ran
 -- out
-abbrev pub IsUpdateFault : Bool → List ℕ → List (List ℕ) → FeedFault → Type 0
-IsUpdateFault lenient full updates fault =
+abbrev pub IsUpdateFault : Waived → List ℕ → List (List ℕ) → FeedFault → Type 0
+IsUpdateFault how full updates fault =
     IsDeviceOrMemory fault ⊎ (IsFirstOfFeed Full all_codes MAX_LINES (contents_of full) fault
-    ⊎ IsRefused lenient MAX_LINES full updates fault)
+    ⊎ IsRefused how MAX_LINES full updates fault)
 
 -- What comes of the source of an update that is done to a published extract. It is listed behind others, with the header that it leaves.
-abbrev pub IsOneDone : {R : Type 0} → (R → Option (List ℕ)) → (R → Option ℕ) → Bool → PublishedParts → PublishedParts → Source R →
+abbrev pub IsOneDone : {R : Type 0} → (R → Option (List ℕ)) → (R → Option ℕ) → Waived → PublishedParts → PublishedParts → Source R →
     Source R → List DoneUpdate → List DoneUpdate → Result (Unit {0}) FeedFault → Type 0
-IsOneDone remaining errors lenient old new source after listed listed_new (Ok done) = (update : DoneUpdate)
+IsOneDone remaining errors how old new source after listed listed_new (Ok done) = (update : DoneUpdate)
     × (listed_new ≡ listed ++ update ∷ []) × (update.header ≡ new.header)
-    × IsResultOf remaining errors (updating lenient old new MAX_LINES) source after (Ok update.outcome)
-IsOneDone remaining errors lenient old new source after listed listed_new (Err fault) =
-    IsResultOf remaining errors (updating lenient old new MAX_LINES) source after (Err fault)
+    × IsResultOf remaining errors (updating how old new MAX_LINES) source after (Ok update.outcome)
+IsOneDone remaining errors how old new source after listed listed_new (Err fault) =
+    IsResultOf remaining errors (updating how old new MAX_LINES) source after (Err fault)
 
 -- What comes of the sources of updates that are done to a published extract, one after another. Those behind one that isn't done are as
 -- they were.
-abbrev pub AreDoneInTurn : {R : Type 0} → (R → Option (List ℕ)) → (R → Option ℕ) → Bool → PublishedParts → PublishedParts →
+abbrev pub AreDoneInTurn : {R : Type 0} → (R → Option (List ℕ)) → (R → Option ℕ) → Waived → PublishedParts → PublishedParts →
     List (Source R) → List (Source R) → List DoneUpdate → Result (Unit {0}) FeedFault → Type 0
-AreDoneInTurn remaining errors lenient old new [] after done result =
+AreDoneInTurn remaining errors how old new [] after done result =
     (after ≡ []) × IfErr result (λ fault. ⊥) × (new ≡ old) × (done ≡ [])
-AreDoneInTurn {R} remaining errors lenient old new (source ∷ sources) after done result =
+AreDoneInTurn {R} remaining errors how old new (source ∷ sources) after done result =
     (read : Source R) × (others : List (Source R)) × (after ≡ read ∷ others) × (mid : PublishedParts)
     × (((fault : FeedFault) × (result ≡ Err fault) × (others ≡ sources)
-    × IsResultOf remaining errors (updating lenient old mid MAX_LINES) source read (Err fault))
+    × IsResultOf remaining errors (updating how old mid MAX_LINES) source read (Err fault))
     ⊎ ((first : DoneUpdate) × (later : List DoneUpdate) × (done ≡ first ∷ later) × (first.header ≡ mid.header)
-    × IsResultOf remaining errors (updating lenient old mid MAX_LINES) source read (Ok first.outcome)
-    × AreDoneInTurn remaining errors lenient mid new sources others later result))
+    × IsResultOf remaining errors (updating how old mid MAX_LINES) source read (Ok first.outcome)
+    × AreDoneInTurn remaining errors how mid new sources others later result))
 
 -- what comes of writing the extract that the updates leave, where they are done
 abbrev pub EndsAs : {A : Type 0} → (A → List DoneUpdate) → List DoneUpdate → Result (Unit {0}) FeedFault → Result A FeedFault → Type 0
@@ -194,12 +205,12 @@ EndsAs listed updates (Err fault) result = result ≡ Err fault
 
 -- What comes of the sources of a published extract and of updates: the first isn't read, and no update is touched; or it is, and the
 -- updates are done to it in turn.
-abbrev pub AreUpdatesRead : {R A : Type 0} → (R → Option (List ℕ)) → (R → Option ℕ) → (A → List DoneUpdate) → Bool → Source R → Source R
+abbrev pub AreUpdatesRead : {R A : Type 0} → (R → Option (List ℕ)) → (R → Option ℕ) → (A → List DoneUpdate) → Waived → Source R → Source R
     → List (Source R) → List (Source R) → Result A FeedFault → Type 0
-AreUpdatesRead remaining errors listed lenient full full_new updates updates_new result =
+AreUpdatesRead remaining errors listed how full full_new updates updates_new result =
     ((fault : FeedFault) × (result ≡ Err fault) × (updates_new ≡ updates)
     × IsResultOf remaining errors (reading_published all_codes MAX_LINES) full full_new (Err fault))
     ⊎ ((extract : PublishedExtract) × (new : PublishedParts) × (these : List DoneUpdate) × (done : Result (Unit {0}) FeedFault)
     × IsResultOf remaining errors (reading_published all_codes MAX_LINES) full full_new (Ok extract)
-    × AreDoneInTurn remaining errors lenient (published_parts extract) new updates updates_new these done
+    × AreDoneInTurn remaining errors how (published_parts extract) new updates updates_new these done
     × EndsAs listed these done result)

@@ -2,7 +2,7 @@
 use Rattle.std.specs.Prelude.{All, Bool, Contains, Err, IsSomeAnd, List, Ok, Result, Some, [], drop, false, length, slice_get, true, ℕ}
 use Rattle.std.specs.Prelude.{◌++◌, ◌+◌, ◌<◌, ◌==◌, ◌↔◌, ◌∷◌, ◌≡◌, ◌≤◌, ◌⊎◌}
 use Rattle.std.specs.List.{before_first}
-use Rattle.cif_columns.specs.{Contents.contents_of, Day.StandsInYymmdd, GivenLines.AreContentsToCut, GivenLines.IsDecidedWithinOrLast}
+use Rattle.cif_columns.specs.{Contents.contents_of, DateWord.IsDateWord, GivenLines.AreContentsToCut, GivenLines.IsDecidedWithinOrLast}
 use Rattle.cif_columns.specs.{Source.Unread}
 use Rattle.cif_columns.specs.declared.{ahead.Most.TheVariants.Of, line_reader.TheConstants.MAX_LINES, refusal.LineFault.LineFault}
 use Rattle.cif_columns.specs.declared.refusal.LineFault.TheVariants as line_fault
@@ -19,15 +19,15 @@ is_remark b = b == 35
 abbrev pub words_of : List ℕ → List (List ℕ)
 words_of line = words_in (before_first is_remark line)
 
--- one of the words names day d: YYMMDD
+-- one of the words names day d
 pub record NamesDay (words : List (List ℕ)) (d : ℕ) : Type 0 where
   pub word : List ℕ
   pub listed : Contains words word
-  pub stands : StandsInYymmdd word d
+  pub stands : IsDateWord word d
 
 -- the word names some day
 abbrev pub IsDate : List ℕ → Type 0
-IsDate word = (d : ℕ) × StandsInYymmdd word d
+IsDate word = (d : ℕ) × IsDateWord word d
 
 -- the words are this code, and then dates
 pub record AreCodeAndDates (words : List (List ℕ)) (code : HolidayCode) : Type 0 where

@@ -32,10 +32,12 @@ pub mod Sequence
 pub mod SpellsFeed
 pub mod Steps
 pub mod Transaction
+pub mod Unreached
 pub mod UpdateLines
 pub mod UpdateParts
 pub mod Updated
 pub mod UpdatesInTurn
+pub mod Waived
 pub mod Words
 pub mod WrittenExtracts
 pub mod WrittenOver

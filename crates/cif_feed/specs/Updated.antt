@@ -1,11 +1,12 @@
 -- What an update does to a published extract.
-use Rattle.std.specs.Prelude.{Bool, List, Some, [], false, if◌then◌else◌, slice_get, true, ℕ, ◌++◌, ◌==◌, ◌∷◌, ◌≡◌, ◌⊎◌}
+use Rattle.std.specs.Prelude.{List, None, Some, [], if◌then◌else◌, ℕ, ◌++◌, ◌==◌, ◌∷◌, ◌≡◌}
 use Rattle.cif_columns.specs.{Contents.contents_of, Source.Unread}
 use Rattle.cif_extract.specs.ReadCall.{ReadCall, reading}
 use Rattle.cif_feed.specs.{Changes.AreAfter, Changes.AreRefused, Counts.counts_of, HolidayCode.all_codes, Marks.passed_of}
 use Rattle.cif_feed.specs.{PublishedParts.PublishedParts, Sequence.follows}
 use Rattle.cif_feed.specs.FeedFault.{IsFeedFault, IsOfFeed, is_feed_read}
 use Rattle.cif_feed.specs.RecordKeys.{association_key, schedule_key, tiploc_key}
+use Rattle.cif_feed.specs.{Waived.first_refused, declared.changes.Waived.Waived}
 use Rattle.cif_feed.specs.UpdateParts.{AssociationKey, BytesSpellUpdate, ScheduleKey, UpdateParts}
 use Rattle.cif_feed.specs.declared.{changes.RefusedLine.RefusedLine, changes.Unfit.Unfit, feed_fault.FeedFault.FeedFault}
 use Rattle.cif_feed.specs.declared.{feed_line.Feed.TheVariants.Update, published_extract.PublishedAssociation.PublishedAssociation}
@@ -57,39 +58,37 @@ fault_at line unfit.AlreadyThere = AlreadyThere line
 abbrev pub refused_fault : RefusedLine → FeedFault
 refused_fault r = fault_at r.line r.why
 
--- A line of an update is refused: the first that may not be done, of an update that these bytes spell, and it isn't lenient.
-pub record IsLineRefused (lenient : Bool) (old : PublishedParts) (max : ℕ) (bytes : List ℕ) (line : RefusedLine) : Type 0 where
-  pub strict : lenient ≡ false
+-- A line of an update is refused: of an update that these bytes spell, the first that may not be done and isn't waived.
+pub record IsLineRefused (how : Waived) (old : PublishedParts) (max : ℕ) (bytes : List ℕ) (line : RefusedLine) : Type 0 where
   pub update : UpdateParts
   pub spelled : BytesSpellUpdate max bytes update
   pub lines : List RefusedLine
   pub refused : AreRefusedLines update old lines
-  pub first : slice_get lines 0 ≡ Some line
+  pub first : first_refused how lines ≡ Some line
 
 -- Why an update is not done to a published extract, where `after` is left of its bytes then: for what can't be read, or for the first line
--- that may not be done.
-abbrev pub IsUpdateFault : Bool → PublishedParts → ℕ → List ℕ → Unread → FeedFault → Type 0
-IsUpdateFault lenient old max bytes after (OutOfSequence line) =
-    IsLineRefused lenient old max bytes (record { line = line; why = unfit.OutOfSequence })
-IsUpdateFault lenient old max bytes after (NotThere line) =
-    IsLineRefused lenient old max bytes (record { line = line; why = unfit.NotThere })
-IsUpdateFault lenient old max bytes after (AlreadyThere line) =
-    IsLineRefused lenient old max bytes (record { line = line; why = unfit.AlreadyThere })
-IsUpdateFault lenient old max bytes after fault = IsFeedFault Update all_codes max bytes after fault
+-- that may not be done and isn't waived.
+abbrev pub IsUpdateFault : Waived → PublishedParts → ℕ → List ℕ → Unread → FeedFault → Type 0
+IsUpdateFault how old max bytes after (OutOfSequence line) =
+    IsLineRefused how old max bytes (record { line = line; why = unfit.OutOfSequence })
+IsUpdateFault how old max bytes after (NotThere line) =
+    IsLineRefused how old max bytes (record { line = line; why = unfit.NotThere })
+IsUpdateFault how old max bytes after (AlreadyThere line) =
+    IsLineRefused how old max bytes (record { line = line; why = unfit.AlreadyThere })
+IsUpdateFault how old max bytes after fault = IsFeedFault Update all_codes max bytes after fault
 
--- An update was done to a published extract: the one that these bytes spell, whose lines that may not be done are those waived. There are
--- none, unless it is lenient.
-pub record IsUpdatedBy (lenient : Bool) (old : PublishedParts) (max : ℕ) (bytes : List ℕ) (new : PublishedParts) (waived : List RefusedLine)
+-- An update was done to a published extract: the one that these bytes spell, whose lines that may not be done are these. All are waived.
+pub record IsUpdatedBy (how : Waived) (old : PublishedParts) (max : ℕ) (bytes : List ℕ) (new : PublishedParts) (lines : List RefusedLine)
     : Type 0 where
   pub update : UpdateParts
   pub spelled : BytesSpellUpdate max bytes update
   pub updated : IsUpdated update old new
-  pub refused : AreRefusedLines update old waived
-  pub strict : lenient ≡ false → waived ≡ []
+  pub refused : AreRefusedLines update old lines
+  pub all_waived : first_refused how lines ≡ None
 
--- a line is no fault of an update that may be done, or that is lenient
-abbrev pub MayBeDone : Bool → PublishedParts → UpdateParts → Type 0
-MayBeDone lenient old update = (lenient ≡ true) ⊎ AreRefusedLines update old []
+-- each line of the update that may not be done is waived
+abbrev pub MayBeDone : Waived → PublishedParts → UpdateParts → Type 0
+MayBeDone how old update = (lines : List RefusedLine) → AreRefusedLines update old lines → first_refused how lines ≡ None
 
 -- the faults of doing an update of at most max contents, for any source
 abbrev pub IsOfUpdate : ℕ → FeedFault → Type 0
@@ -100,13 +99,13 @@ IsOfUpdate max fault = IsOfFeed max fault
 
 -- The outcome of an update of these bytes that was done: the lines that are waived, how many of its lines do what, and how many comments
 -- and notes were passed over.
-pub record IsOutcomeOf (lenient : Bool) (old : PublishedParts) (max : ℕ) (bytes : List ℕ) (new : PublishedParts) (outcome : Outcome)
+pub record IsOutcomeOf (how : Waived) (old : PublishedParts) (max : ℕ) (bytes : List ℕ) (new : PublishedParts) (outcome : Outcome)
     : Type 0 where
-  pub done : IsUpdatedBy lenient old max bytes new outcome.waived.items
+  pub done : IsUpdatedBy how old max bytes new outcome.waived.items
   pub counts : outcome.counts ≡ counts_of (contents_of bytes)
   pub passed : outcome.passed ≡ passed_of (contents_of bytes)
 
 -- reading an update and doing it, which makes `new` of `old`
-abbrev pub updating : Bool → PublishedParts → PublishedParts → ℕ → ReadCall Outcome FeedFault
-updating lenient old new max =
-    reading is_feed_read (λ bytes. IsOutcomeOf lenient old max bytes new) (IsUpdateFault lenient old max) (IsOfUpdate max)
+abbrev pub updating : Waived → PublishedParts → PublishedParts → ℕ → ReadCall Outcome FeedFault
+updating how old new max =
+    reading is_feed_read (λ bytes. IsOutcomeOf how old max bytes new) (IsUpdateFault how old max) (IsOfUpdate max)

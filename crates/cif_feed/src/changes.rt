@@ -64,6 +64,17 @@ pub struct RefusedLine {
     pub why: Unfit,
 }
 
+/// Which lines of an update that don't fit are waived.
+#[derive(Clone, Copy)]
+pub enum Waived {
+    /// None.
+    Nothing,
+    /// Those whose key is there already, or isn't there. The update has to follow the extract.
+    Keys,
+    /// All, also the header of an update that doesn't follow the extract.
+    Everything,
+}
+
 /// Why a line of an update doesn't fit.
 #[derive(Clone, Copy, Debug, PartialEq, Eq)]
 pub enum Unfit {
@@ -88,6 +99,36 @@ impl RefusedLine {
             Unfit::NotThere => FeedFault::NotThere { line },
             Unfit::AlreadyThere => FeedFault::AlreadyThere { line },
         }
+    }
+}
+
+impl Waived {
+    ghost use Rattle.cif_feed.specs.Waived.{first_refused, waives};
+
+    /// Whether a line is waived that doesn't fit for this reason.
+    pub fn waives(self, why: Unfit) -> bool
+        ensures { result ≡ waives self why }
+    {
+        match self {
+            Waived::Nothing => false,
+            Waived::Keys => match why {
+                Unfit::OutOfSequence => false,
+                Unfit::NotThere | Unfit::AlreadyThere => true,
+            },
+            Waived::Everything => true,
+        }
+    }
+
+    /// The first of these lines that isn't waived.
+    pub fn first_refused(self, lines: &[RefusedLine]) -> Option<RefusedLine>
+        ensures { result ≡ first_refused self lines.now }
+    {
+        for line in lines {
+            if !self.waives(line.why) {
+                return Some(*line);
+            }
+        }
+        None
     }
 }
 

@@ -1,7 +1,6 @@
 //! The text of holidays.
 ghost use Rattle.std.specs.Prelude.{◌≡◌, ◌<◌, ◌≤◌, ◌+◌, ◌∷◌, ◌==◌, [], ℕ, All, IfErr, IfOk, IfSome, Some, length};
 ghost use Rattle.std.specs.List.{before_first};
-ghost use Rattle.cif_columns.specs.Day.{StandsInYymmdd};
 ghost use Rattle.cif_extract.specs.ReadCall.{IsResultOf};
 ghost use Rattle.cif_feed.specs.Words.{words_in};
 
@@ -46,7 +45,7 @@ impl Holidays {
     ghost use Rattle.cif_feed.specs.Steps.HolidayReading.{HasLineMore, IsDateFault, IsLineFault};
 
     /// The holidays of a text. Each line has at most 1,000 bytes. What begins with a `#` is a remark.
-    /// What stands before it is empty, or a code and any number of dates `yymmdd`, with spaces
+    /// What stands before it is empty, or a code and any number of dates, `yymmdd` or `YYYY-MM-DD`, with spaces
     /// between and around them. The first other line is refused, and so is one after `MAX_LINES`.
     ///
     /// BadHoliday names that line; Read comes where the source failed before it was decided, by its
@@ -121,7 +120,7 @@ impl Holidays {
             if word.is_empty() {
                 return Ok(());
             }
-            let Some(day) = day_in(word) else {
+            let Some(day) = Day::from_word(word) else {
                 return Err(HolidayFault::BadHoliday { line: number });
             };
             match self.add(code, day) {
@@ -129,17 +128,6 @@ impl Holidays {
                 Err(_) => return Err(HolidayFault::Memory),
             }
         }
-    }
-}
-
-/// The day that a word names, if it names one.
-fn day_in(word: &[u8]) -> Option<Day>
-    ensures found { IfSome result (StandsInYymmdd word.now) }
-    ensures only { (day : ℕ) → StandsInYymmdd word.now day → result ≡ Some day }
-{
-    match word.as_array::<6>() {
-        Some(columns) => Day::from_yymmdd(columns),
-        None => None,
     }
 }
 

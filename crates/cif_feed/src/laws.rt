@@ -8,6 +8,8 @@ ghost use Rattle.cif_feed.specs.{Judged.IsReadAsJudged, PublishedParts.SpellPubl
 ghost use Rattle.cif_feed.specs.PublishedParts.{IsPublishedOf, PublishedParts, published_parts, BytesSpellPublished};
 ghost use Rattle.cif_feed.specs.{PublishedParts.published_text, UpdateParts.UpdateParts, UpdateParts.update_parts};
 ghost use Rattle.cif_feed.specs.UpdateParts.{IsUpdateOf, BytesSpellUpdate, AssociationKey, ScheduleKey, SpellUpdate};
+ghost use Rattle.cif_feed.specs.Unreached.{DoesNotReach, unreached};
+ghost use Rattle.cif_feed.specs.declared.{changes.Waived.Waived, unreached.Unreached.Unreached};
 ghost use Rattle.cif_feed.specs.declared.{changes.RecordChange.RecordChange, changes.RefusedLine.RefusedLine, dropped.Dropped.Dropped};
 ghost use Rattle.cif_feed.specs.WrittenPrepared.{AreDroppedIf, IsDeviceOrMemory, IsPrepareFault, IsPreparedText, codes_named};
 ghost use Rattle.cif_feed.specs.declared.{feed_fault.FeedFault.FeedFault, feed_line.Feed.Feed, feed_line.Feed.TheVariants.Full};
@@ -47,9 +49,9 @@ pub fn what_bytes_spell_is_read()
     ensures update { (max : ℕ) (bytes : List ℕ) (after : Unread) (x : UpdateParts)
         (result : Result Update FeedFault) → BytesSpellUpdate max bytes x → IfOk result (IsUpdateOf max bytes)
         → IfErr result (IsFeedFault feed.Update all_codes max bytes after) → IsReadAs update_parts x result }
-    ensures updated { (lenient : Bool) (max : ℕ) (old : PublishedParts) (bytes : List ℕ) (after : Unread)
-        (u : UpdateParts) (fault : FeedFault) → BytesSpellUpdate max bytes u → MayBeDone lenient old u
-        → IsUpdateFault lenient old max bytes after fault → IsFailure fault }
+    ensures updated { (how : Waived) (max : ℕ) (old : PublishedParts) (bytes : List ℕ) (after : Unread)
+        (u : UpdateParts) (fault : FeedFault) → BytesSpellUpdate max bytes u → MayBeDone how old u
+        → IsUpdateFault how old max bytes after fault → IsFailure fault }
     ensures judged { (max : ℕ) (bytes : List ℕ) (after : Unread) (x : ExtractParts)
         (result : Result Judged Fault) → BytesSpellWithin max bytes x
         → IfOk result (IsJudgedAs max bytes after) → IfErr result (IsJudgedFault max bytes after)
@@ -94,6 +96,14 @@ pub fn prepared_texts_say_what_was_published()
         (p : PublishedParts) (x : ExtractParts)
         → IsPreparedText h drops max bytes text dropped → BytesSpellPublished (codes_named h) max bytes p
         → BytesSpell text x → SayAsPublished h drops p x × AreDroppedIf drops h p dropped }
+{}
+
+/// Which holidays don't reach the window of a published extract.
+pub fn holidays_that_dont_reach()
+    ensures found { (h : Holidays) (p : PublishedParts) (code : HolidayCode) (u : Unreached)
+        → unreached h p code ≡ Some u → (u.code ≡ code) × DoesNotReach h p u }
+    ensures only { (h : Holidays) (p : PublishedParts) (u : Unreached) → DoesNotReach h p u
+        → unreached h p u.code ≡ Some u }
 {}
 
 /// What changes leave, by a test of whether two keys are the same.
@@ -185,30 +195,30 @@ pub fn published_texts_spell_their_extracts()
 {}
 
 /// Updates that are done one after another are done in one run as in two: in the second, to what the first
-/// wrote. All runs are lenient, or none is.
+/// wrote. All runs waive the same.
 pub fn updates_in_turn()
     // A run with the updates of both writes and waives what the second writes and waives, where what the first
     // wrote isn't too long to be read.
-    ensures written { (lenient : Bool) (max : ℕ) (full : List ℕ) (first second : List (List ℕ))
+    ensures written { (how : Waived) (max : ℕ) (full : List ℕ) (first second : List (List ℕ))
         (between : List ℕ) (waived : List RefusedLine)
-        → IsWritten lenient max full first between waived → length (contents_of between) ≤ max
+        → IsWritten how max full first between waived → length (contents_of between) ≤ max
         → (written : List ℕ) (later : List RefusedLine)
-        → IsWritten lenient max full (first ++ second) written (waived ++ later)
-        ↔ IsWritten lenient max between second written later }
+        → IsWritten how max full (first ++ second) written (waived ++ later)
+        ↔ IsWritten how max between second written later }
     // It is refused for what the second is refused for.
-    ensures refused { (lenient : Bool) (max : ℕ) (full : List ℕ) (first second : List (List ℕ))
+    ensures refused { (how : Waived) (max : ℕ) (full : List ℕ) (first second : List (List ℕ))
         (between : List ℕ) (waived : List RefusedLine)
-        → IsWritten lenient max full first between waived → length (contents_of between) ≤ max
+        → IsWritten how max full first between waived → length (contents_of between) ≤ max
         → (fault : FeedFault)
-        → IsRefused lenient max full (first ++ second) fault ↔ IsRefused lenient max between second fault }
+        → IsRefused how max full (first ++ second) fault ↔ IsRefused how max between second fault }
     // A run writes and waives one thing at most, and nothing, if it is refused.
-    ensures one { (lenient : Bool) (max : ℕ) (full : List ℕ) (updates : List (List ℕ))
+    ensures one { (how : Waived) (max : ℕ) (full : List ℕ) (updates : List (List ℕ))
         (a b : List ℕ) (v w : List RefusedLine)
-        → IsWritten lenient max full updates a v → IsWritten lenient max full updates b w
+        → IsWritten how max full updates a v → IsWritten how max full updates b w
         → (a ≡ b) × (v ≡ w) }
-    ensures either { (lenient : Bool) (max : ℕ) (full : List ℕ) (updates : List (List ℕ))
+    ensures either { (how : Waived) (max : ℕ) (full : List ℕ) (updates : List (List ℕ))
         (written : List ℕ) (waived : List RefusedLine) (fault : FeedFault)
-        → IsWritten lenient max full updates written waived → IsRefused lenient max full updates fault → ⊥ }
+        → IsWritten how max full updates written waived → IsRefused how max full updates fault → ⊥ }
 {}
 
 /// The text of a prepared extract spells it, as an extract of this profile, where what the published one

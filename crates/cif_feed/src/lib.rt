@@ -19,11 +19,12 @@ mod published_entry;
 mod published_extract;
 mod reasons;
 mod record_keys;
+mod unreached;
 mod update;
 mod updates_in_turn;
 mod written;
 
-pub use changes::{Action, Keyed, RecordChange, RefusedLine, Unfit, apply};
+pub use changes::{Action, Keyed, RecordChange, RefusedLine, Unfit, Waived, apply};
 pub use dropped::{Dropped, DroppedKey};
 pub use feed_fault::FeedFault;
 pub use feed_line::Feed;
@@ -35,5 +36,6 @@ pub use prepare::{KeptPrepare, Preparation, Prepared, answer_prepare, write_prep
 pub use prepared_record::PreparedRecord;
 pub use published_extract::{PublishedAssociation, PublishedExtract, PublishedSchedule};
 pub use reasons::Reasons;
+pub use unreached::Unreached;
 pub use update::{Outcome, Update, current_reference, last_reference};
 pub use updates_in_turn::{DoneUpdate, KeptUpdate, ReadFeed, answer_update};

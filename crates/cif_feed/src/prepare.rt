@@ -5,7 +5,7 @@ ghost use Rattle.cif_calendar.specs.Entries.{association_entries, schedule_entri
 ghost use Rattle.cif_columns.specs.{Sink.Writes, Source.reader_of, declared.line_reader.TheConstants.MAX_LINES};
 ghost use Rattle.cif_extract.specs.{ReadCall.IsResultOf, Texts.extract_text};
 ghost use Rattle.cif_feed.specs.FeedAnswer.{AreHolidaysRead, FeedAnswers, IsHandedOn, IsPrepareAnswer, IsPrepareFault};
-ghost use Rattle.cif_feed.specs.FeedAnswer.{IsPreparedInTurn, IsReported, OfHolidays};
+ghost use Rattle.cif_feed.specs.FeedAnswer.{IsPreparedInTurn, IsReported, OfHolidays, prepare_reported};
 ghost use Rattle.cif_feed.specs.Prepared.{ArePrepared, prepared_last, published_terms};
 ghost use Rattle.cif_feed.specs.PreparedParts.{IsPrepared, association_on, schedule_on};
 ghost use Rattle.cif_feed.specs.PublishedParts.{published_associations, published_parts, published_schedules};
@@ -49,7 +49,7 @@ pub struct KeptPrepare {
 
 /// Writes the prepared extract of what the source gives, with the holidays that the other source gives, which
 /// is read first; with none where there is no such source. With `drop_clashes` the dates of clashes are left
-/// out; the answer is what was dropped. What was read is left in `kept`.
+/// out; the answer is what was dropped. What was read is left in `kept`, which says which holidays don't reach.
 pub fn answer_prepare<R: ReadDevice, W: WriteDevice>(
     alloc: Global,
     holidays: &mut Option<Source<R>>,
@@ -58,7 +58,7 @@ pub fn answer_prepare<R: ReadDevice, W: WriteDevice>(
     drop_clashes: bool,
     kept: &mut KeptPrepare,
 ) -> Result<Dropped, FeedFault>
-    ensures answer { FeedAnswers W.contents W.write_errors (λ dropped. dropped)
+    ensures answer { FeedAnswers W.contents W.write_errors (prepare_reported kept.new)
         (λ text reported. OfHolidays R.remaining (λ given bytes. IsReported (IsPrepareAnswer drop_clashes given bytes text) reported)
         holidays.old source.old) sink.old sink.new result }
     ensures fault { OfHolidays R.remaining (λ given bytes. IfErr result (IsPrepareFault given bytes))

@@ -14,7 +14,7 @@ use crate::published_extract::{FromLine, from_lines, last_of};
 use crate::record_keys::tiploc_key;
 use crate::{
     Action, Feed, FeedFault, HolidayCodes, Passed, PublishedAssociation, PublishedExtract,
-    PublishedSchedule, RecordChange, RefusedLine, Transaction, Unfit, UpdateCounts, apply,
+    PublishedSchedule, RecordChange, RefusedLine, Transaction, Unfit, UpdateCounts, Waived, apply,
 };
 use cif_columns::{Day, ReadDevice, Source, Stp, Uid};
 use cif_extract::{Extract, Schedule};
@@ -97,6 +97,8 @@ impl PublishedExtract {
             IsUpdated (update_parts update) (published_parts self.old) (published_parts self.new)) }
         ensures refused { IfOk result (λ refused.
             AreRefusedLines (update_parts update) (published_parts self.old) refused.items) }
+        ensures counts { self.new.counts ≡ self.old.counts }
+        ensures passed { self.new.passed ≡ self.old.passed }
     {
         let Update {
             header,
@@ -119,7 +121,7 @@ impl PublishedExtract {
     }
 
     /// Applies the update that the source's contents spell, of which at most `max_lines` may come. Of an
-    /// update with a line that doesn't fit nothing is applied, unless it is lenient.
+    /// update with a line that doesn't fit and isn't waived nothing is applied.
     ///
     /// OutOfSequence, NotThere and AlreadyThere name the first such line; any other fault is one of reading
     /// the update. After a fault nothing is said of the published extract.
@@ -128,17 +130,19 @@ impl PublishedExtract {
         alloc: Global,
         source: &mut Source<R>,
         max_lines: u64,
-        lenient: bool,
+        how: Waived,
     ) -> Result<Outcome, FeedFault>
         requires within { max_lines ≤ MAX_LINES }
-        ensures { IsResultOf R.remaining R.read_errors
-            (updating lenient (published_parts self.old) (published_parts self.new) max_lines)
+        ensures reads { IsResultOf R.remaining R.read_errors
+            (updating how (published_parts self.old) (published_parts self.new) max_lines)
             source.old source.new result }
+        ensures counts { self.new.counts ≡ self.old.counts }
+        ensures passed { self.new.passed ≡ self.old.passed }
     {
         let update = Update::read(alloc, source, max_lines)?;
         let (counts, passed) = (update.counts, update.passed);
         let waived = self.update(alloc, update)?;
-        answer_of(lenient, waived, counts, passed)
+        answer_of(how, waived, counts, passed)
     }
 }
 
@@ -191,7 +195,7 @@ fn header_refused(
 /// What an update did.
 #[derive(Drop)]
 pub struct Outcome {
-    /// The lines that don't fit, and were applied anyway. There are none, unless it was lenient.
+    /// The lines that don't fit, and were applied anyway.
     pub waived: Vec<RefusedLine>,
     /// How many lines it has, by what they do.
     pub counts: UpdateCounts,
@@ -201,17 +205,17 @@ pub struct Outcome {
 
 /// What is answered of these lines that don't fit.
 fn answer_of(
-    lenient: bool,
+    how: Waived,
     waived: Vec<RefusedLine>,
     counts: UpdateCounts,
     passed: Passed,
 ) -> Result<Outcome, FeedFault>
-    ensures done { IsDone lenient waived.items result }
+    ensures done { IsDone how waived.items result }
     ensures said { IfOk result (λ done. (done.counts ≡ counts) × (done.passed ≡ passed)) }
 {
-    match waived.first() {
-        Some(line) if !lenient => Err(line.fault()),
-        _ => Ok(Outcome {
+    match how.first_refused(waived.as_slice()) {
+        Some(line) => Err(line.fault()),
+        None => Ok(Outcome {
             waived,
             counts,
             passed,

@@ -6,6 +6,7 @@ ghost use Rattle.cif_feed.specs.{Counts.have_marks, PublishedParts.published_par
 ghost use Rattle.cif_feed.specs.FeedAnswer.{AreDoneInTurn, AreUpdatesRead, FeedAnswers, FeedFinishes, IsHandedOn, IsOneDone, IsReported};
 ghost use Rattle.cif_feed.specs.FeedAnswer.{IsUpdateAnswer, IsUpdateFault, OfUpdates, looks_prepared, reported_of};
 
+use crate::changes::Waived;
 use crate::feed_fault::FeedFault;
 use crate::holidays::HolidayCodes;
 use crate::mark::{Passed, UpdateCounts};
@@ -106,15 +107,15 @@ pub fn answer_update<R: ReadDevice, W: WriteDevice>(
     full: &mut Source<R>,
     updates: &mut [Source<R>],
     sink: &mut Sink<W>,
-    lenient: bool,
+    how: Waived,
     kept: &mut KeptUpdate,
 ) -> Result<(), FeedFault>
     ensures answer { FeedAnswers W.contents W.write_errors (λ _. reported_of kept.new)
-        (λ text reported. OfUpdates R.remaining (λ bytes given. IsReported (IsUpdateAnswer lenient bytes given text) reported)
+        (λ text reported. OfUpdates R.remaining (λ bytes given. IsReported (IsUpdateAnswer how bytes given text) reported)
         full.old updates.old) sink.old sink.new result }
-    ensures fault { OfUpdates R.remaining (λ bytes given. IfErr result (IsUpdateFault lenient bytes given))
+    ensures fault { OfUpdates R.remaining (λ bytes given. IfErr result (IsUpdateFault how bytes given))
         full.old updates.old }
-    ensures reads { AreUpdatesRead R.remaining R.read_errors (λ _. kept.new.done.items) lenient
+    ensures reads { AreUpdatesRead R.remaining R.read_errors (λ _. kept.new.done.items) how
         full.old full.new updates.old updates.new result }
     ensures handed_on { IsHandedOn W.holds_nothing sink.new result }
 {
@@ -122,7 +123,7 @@ pub fn answer_update<R: ReadDevice, W: WriteDevice>(
     kept.full = Some(ReadFeed::of(&extract));
     kept.done = Vec::new(alloc);
     let extract = kept.extract.insert(extract);
-    do_updates(alloc, extract, updates, lenient, &mut kept.done)?;
+    do_updates(alloc, extract, updates, how, &mut kept.done)?;
     finish(extract.write(sink), sink)
 }
 
@@ -131,19 +132,19 @@ fn do_updates<R: ReadDevice>(
     alloc: Global,
     extract: &mut PublishedExtract,
     updates: &mut [Source<R>],
-    lenient: bool,
+    how: Waived,
     done: &mut Vec<DoneUpdate>,
 ) -> Result<(), FeedFault>
     ensures { (these : List DoneUpdate)
-        × AreDoneInTurn R.remaining R.read_errors lenient (published_parts extract.old)
+        × AreDoneInTurn R.remaining R.read_errors how (published_parts extract.old)
         (published_parts extract.new) updates.old updates.new these result
         × IfOk result (λ _. done.new.items ≡ done.old.items ++ these) }
 {
     match updates.split_first_mut() {
         None => Ok(()),
         Some((update, others)) => {
-            do_update(alloc, extract, update, lenient, done)?;
-            do_updates(alloc, extract, others, lenient, done)
+            do_update(alloc, extract, update, how, done)?;
+            do_updates(alloc, extract, others, how, done)
         }
     }
 }
@@ -153,13 +154,13 @@ fn do_update<R: ReadDevice>(
     alloc: Global,
     extract: &mut PublishedExtract,
     update: &mut Source<R>,
-    lenient: bool,
+    how: Waived,
     done: &mut Vec<DoneUpdate>,
 ) -> Result<(), FeedFault>
-    ensures { IsOneDone R.remaining R.read_errors lenient (published_parts extract.old) (published_parts extract.new)
+    ensures { IsOneDone R.remaining R.read_errors how (published_parts extract.old) (published_parts extract.new)
         update.old update.new done.old.items done.new.items result }
 {
-    let outcome = extract.update_from(alloc, update, MAX_LINES, lenient)?;
+    let outcome = extract.update_from(alloc, update, MAX_LINES, how)?;
     let header = extract.header;
     match done.push(DoneUpdate { header, outcome }) {
         Ok(()) => Ok(()),

@@ -5,7 +5,8 @@ use Rattle.std.specs.{Global.Global, Global.Vec, List.Sorted.IsNonDecreasing}
 use Rattle.std.proofs.lemmas.List.Elements.{All-cons, All-nil}
 use Rattle.cif_calendar.proofs.{Elements.Contains-cases, Elements.Contains-first, RisingLists.Contains-none}
 use Rattle.cif_columns.proofs.{DayColumns.yymmdd_in-stands, DayDigits.stands-yymmdd_of}
-use Rattle.cif_columns.specs.{Contents.contents_of, Day.StandsInYymmdd, DayDigits.date_of, DayDigits.yymmdd_of}
+use Rattle.cif_columns.proofs.DateWords.{one-date-word}
+use Rattle.cif_columns.specs.{Contents.contents_of, DateWord.IsDateWord, Day.StandsInYymmdd, DayDigits.date_of, DayDigits.yymmdd_of}
 use Rattle.cif_feed.specs.{HolidayCode.letter, HolidayText.words_of, Holidays.IsHoliday, Holidays.Names, Words.words_in}
 use Rattle.cif_feed.specs.{declared.holidays.HolidayCode.HolidayCode, declared.holidays.Holidays.Holidays}
 use Rattle.cif_feed.specs.HolidayText.{AreCodeAndDates, IsDate, IsHolidayLine, LineNames, LineSays, NamesDay, SomeLine, SpellHolidays}
@@ -57,7 +58,7 @@ stands : StandsInYymmdd date 4
 stands = subst (λ word. StandsInYymmdd word 4) fourth (stands-yymmdd_of 4 (omega arith))
 
 are-words : AreCodeAndDates (words_of line) X
-are-words = record { dates = date ∷ []; are = words; are_dates = All-cons IsDate date [] (4, stands) (All-nil IsDate) }
+are-words = record { dates = date ∷ []; are = words; are_dates = All-cons IsDate date [] (4, inl stands) (All-nil IsDate) }
 
 -- a word alone is the first
 pub only : {A : Type 0} (x y : A) → Contains (x ∷ []) y → x ≡ y
@@ -78,18 +79,13 @@ named code names = at code (ap first (subst (λ ws. slice_get ws 0 ≡ Some (let
 says : LineSays X 4 line
 says = record {
   names = ap (λ ws. slice_get ws 0) words;
-  day = subst (λ ws. NamesDay (drop 1 ws) 4) (sym words) (record { word = date; listed = Contains-first date []; stands = stands });
+  day = subst (λ ws. NamesDay (drop 1 ws) 4) (sym words) (record { word = date; listed = Contains-first date []; stands = inl stands });
 }
 
 the-day : (code : HolidayCode) (d : ℕ) → LineSays code d line → 4 ≡ d
 the-day code d s =
     let day = subst (λ ws. NamesDay (drop 1 ws) d) words s.day in
-    one d (subst (λ word. StandsInYymmdd word d) (sym (only date day.word day.listed)) day.stands)
-  where
-    one : (d : ℕ) → StandsInYymmdd date d → 4 ≡ d
-    one d is =
-        let same : ◌≡◌ {A = Option ℕ} (Some 4) (Some d) = sym (yymmdd_in-stands date 4 stands) ∙ yymmdd_in-stands date d is in
-        cc
+    one-date-word date 4 d (inl stands) (subst (λ word. IsDateWord word d) (sym (only date day.word day.listed)) day.stands)
 
 -- what a line of the text says, this one does
 of-line : (P : List ℕ → Type 0) → SomeLine P (contents_of example_holidays) → P line

@@ -24,7 +24,7 @@ pub fn canonical_extracts_narrow_as_their_inputs()
         → IsNormalFormOf other_form asked_of_canonical canonical narrower }
 {}
 
-/// Canonical bytes are accepted for the dates for which their input is, and then say the same.
+/// Canonical bytes are accepted for the same dates asked for as their input, and then say the same.
 pub fn canonical_extracts_say_what_their_inputs_say()
     ensures clear { (asked : Asked) (input : List ℕ) (x : ExtractParts) → IsAccepted asked x input → IsClearExtract x }
     ensures same { (form : Form) (asked : Asked) (input canonical : List ℕ) (x : ExtractParts)

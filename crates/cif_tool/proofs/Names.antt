@@ -9,7 +9,7 @@ pub use Rattle.clap.specs.Words.{AddsArg, App, FailsBy, Text, app_of, fault_of, 
 pub use Rattle.cif_columns.specs.declared.line_reader.TheConstants.{MAX_LINES}
 pub use Rattle.cif_extract.specs.ReadCall.{ReadCall}
 pub use Rattle.cif_feed.proofs.Names.{BytesSpellWithin, Clash, ExtractParts, HasFailed, HasWritten, HaveReasons, IfOk-weaker, IsJudgedFault}
-pub use Rattle.cif_feed.proofs.Names.{IsResultOf, Makes, Refuses, Sink, Source, StandsInYymmdd, Unread, Writes, at_drop_more, extract_parts}
+pub use Rattle.cif_feed.proofs.Names.{IsResultOf, Makes, Refuses, Sink, Source, Unread, Writes, at_drop_more, extract_parts}
 pub use Rattle.cif_feed.proofs.Names.{failed_second, goes-on, hands-on, judging, known_so, reader_of, reported_text, unread_of}
 pub use Rattle.cif_feed.{proofs.Names.written_both, specs.FeedAnswer.IsHandedOn}
 pub use Rattle.cif_canon.proofs.Names.{AreDifferences, AreNone, CanonParts, DifferencesParts, Fault, FaultWrites, Form, HasCanon, IfWritten}

@@ -6,8 +6,8 @@ use Rattle.clap.{specs.Kinds.Kinds, specs.Lexer.usize_max, specs.declared.builde
 use Rattle.clap.specs.declared.{Command.Command, Command.TheViews.out-Command, builder.ArgAction.TheVariants.SetTrue}
 use Rattle.cif_tool.specs.declared.{command_line.Argument.Argument, command_line.Choices.Choices, command_line.Syntax.Syntax}
 use Rattle.cif_tool.specs.declared.command_line.Argument.TheVariants.{All, Common, Date, DropClashes, File, Form, Format, FromDate, Full}
-use Rattle.cif_tool.specs.declared.command_line.Argument.TheVariants.{Holidays, Left, Lenient, Right, Stops, Table, TableFormat}
-use Rattle.cif_tool.specs.declared.command_line.Argument.TheVariants.{ToDate, Uid, Updates, Verbose}
+use Rattle.cif_tool.specs.declared.command_line.Argument.TheVariants.{Holidays, InSequence, Left, Lenient, Right, Stops, Table}
+use Rattle.cif_tool.specs.declared.command_line.Argument.TheVariants.{TableFormat, ToDate, Uid, Updates, Verbose}
 use Rattle.cif_tool.specs.declared.command_line.Syntax.TheVariants as syntax
 
 -- a word that may not be left out
@@ -68,6 +68,7 @@ given Stops = (codes "stops", syntax.Flag)
 given Holidays = (codes "holidays", syntax.Name)
 given DropClashes = (codes "drop-clashes", syntax.Flag)
 given Lenient = (codes "lenient", syntax.Flag)
+given InSequence = (codes "in-sequence", syntax.Flag)
 given Form = (codes "form", syntax.Form)
 given Format = (codes "format", syntax.Format)
 given TableFormat = (codes "format", syntax.TableFormat)
@@ -136,9 +137,9 @@ calendar = Verbose ∷ Uid ∷ File ∷ FromDate ∷ ToDate ∷ Format ∷ []
 abbrev pub prepare : List Argument
 prepare = Verbose ∷ File ∷ Holidays ∷ DropClashes ∷ []
 
--- `cif update [-v] [--lenient] FULL UPDATE...`
+-- `cif update [-v] [--lenient] [--in-sequence] FULL UPDATE...`
 abbrev pub update : List Argument
-update = Verbose ∷ Full ∷ Updates ∷ Lenient ∷ []
+update = Verbose ∷ Full ∷ Updates ∷ Lenient ∷ InSequence ∷ []
 
 -- how the program keeps a subcommand: its name, its help, and what it takes
 abbrev pub Parts : Type 0

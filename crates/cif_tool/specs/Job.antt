@@ -8,7 +8,9 @@ use Rattle.cif_rows.specs.declared.format.Format.{Format}
 use Rattle.cif_rows.specs.declared.format.Format.TheVariants as format
 use Rattle.cif_views.specs.declared.{listing.Listing.Listing, tables.Table.Table as TableOf}
 use Rattle.cif_views.specs.declared.tables.Table.TheVariants as table
-use Rattle.cif_columns.specs.{Day.StandsInYymmdd, Uid.IsUid}
+use Rattle.cif_columns.specs.{DateWord.IsDateWord, Uid.IsUid}
+use Rattle.cif_feed.specs.declared.{changes.Waived.TheVariants.Everything, changes.Waived.TheVariants.Keys}
+use Rattle.cif_feed.specs.declared.{changes.Waived.TheVariants.Nothing, changes.Waived.Waived}
 use Rattle.cif_weeks.specs.declared.{form.Form.Form, form.Form.TheVariants.One, form.Form.TheVariants.Three}
 use Rattle.cif_weeks.specs.declared.form.Form.TheVariants.{Two}
 use Rattle.cif_tool.specs.{CommandLine.AreChoices, CommandLine.chosen, CommandLine.faults_of, declared.job.Job.TheVariants.Train}
@@ -50,9 +52,9 @@ is_standard word = bytes_eq word (codes "-")
 abbrev pub standard_inputs : List Text → ℕ
 standard_inputs words = count_by is_standard words
 
--- the word names the day, by six digits YYMMDD, or neither is there
+-- the word names the day, or neither is there
 abbrev pub IsDateOf : Option Text → Option ℕ → Type 0
-IsDateOf (Some word) (Some day) = StandsInYymmdd word day
+IsDateOf (Some word) (Some day) = IsDateWord word day
 IsDateOf None None = ⊤
 IsDateOf _ _ = ⊥
 
@@ -73,6 +75,10 @@ is_set None = false
 -- whether the flag of this id is among the words: `clap` gives `true` for it then
 abbrev pub has_flag : Text → List Row → Bool
 has_flag id rows = is_set (first_of id rows)
+
+-- what the words waive: without `--lenient` nothing, and with `--in-sequence` not that an update doesn't follow
+abbrev pub waived_of : List Row → Waived
+waived_of rows = if has_flag (codes "lenient") rows then (if has_flag (codes "in-sequence") rows then Keys else Everything) else Nothing
 
 -- the format that the word of `--format` names, and that of a table
 abbrev pub format_of : Option Text → Format
@@ -123,7 +129,7 @@ IsChosen (Diff job) met = (met.0 ≡ codes "diff")
     × AreComparedWords met.1 job.compared.asked job.compared.common
     × (job.format ≡ format_of (first_of (codes "format") met.1))
 IsChosen (Day job) met = (met.0 ≡ codes "day")
-    × StandsInYymmdd (required_word (codes "YYMMDD") met.1) job.day
+    × IsDateWord (required_word (codes "YYMMDD") met.1) job.day
     × (job.listing ≡ listing_of met.1)
 IsChosen (Train job) met = (met.0 ≡ codes "train")
     × IsUidWord (required_word (codes "UID") met.1) job.uid
@@ -131,7 +137,7 @@ IsChosen (Train job) met = (met.0 ≡ codes "train")
     × (job.listing ≡ listing_of met.1)
 IsChosen (Explain job) met = (met.0 ≡ codes "explain")
     × IsUidWord (required_word (codes "UID") met.1) job.uid
-    × StandsInYymmdd (required_word (codes "YYMMDD") met.1) job.day
+    × IsDateWord (required_word (codes "YYMMDD") met.1) job.day
     × (job.format ≡ format_of (first_of (codes "format") met.1))
 IsChosen (Clashes job) met = (met.0 ≡ codes "clashes")
     × IsAskedBy met.1 job.asked
@@ -148,7 +154,7 @@ IsChosen (Calendar job) met = (met.0 ≡ codes "calendar")
 -- the words that were met ask for this job on published extracts
 abbrev pub IsFeedChosen : FeedJob → Text × List Row → Type 0
 IsFeedChosen (Prepare job) met = (met.0 ≡ codes "prepare") × (job.drop_clashes ≡ has_flag (codes "drop-clashes") met.1)
-IsFeedChosen (Update job) met = (met.0 ≡ codes "update") × (job.lenient ≡ has_flag (codes "lenient") met.1)
+IsFeedChosen (Update job) met = (met.0 ≡ codes "update") × (job.waived ≡ waived_of met.1)
 
 -- the words that were met ask for this task
 abbrev pub IsTaskChosen : Task → Text × List Row → Type 0

@@ -4,7 +4,7 @@ use Rattle.std.specs.Prelude.{⊤, ◌<◌, ◌∷◌, ◌≡◌, ◌≢◌, ◌
 use Rattle.std.specs.Str.{bytes_eq}
 use Rattle.clap.specs.{Words.IsAmong, Words.Row, Words.Text, Words.first_of, declared.error.ErrorKind.TheVariants.DisplayVersion}
 use Rattle.clap.specs.declared.{error.ErrorKind.ErrorKind, error.ErrorKind.TheVariants.DisplayHelp}
-use Rattle.cif_columns.{specs.Day.StandsInYymmdd, specs.Uid.IsUid, specs.declared.sink.Sink.Sink, specs.declared.sink.WriteFault.WriteFault}
+use Rattle.cif_columns.{specs.DateWord.IsDateWord, specs.Uid.IsUid, specs.declared.sink.Sink.Sink, specs.declared.sink.WriteFault.WriteFault}
 use Rattle.cif_columns.specs.Sink.{HasFailed, HasWritten, Writes}
 use Rattle.cif_extract.specs.declared.{fault.Fault.Fault, fault.Fault.TheVariants.Write}
 use Rattle.cif_feed.specs.FeedAnswer.{IsHandedOn}
@@ -15,9 +15,9 @@ use Rattle.cif_tool.specs.declared.{command_line.Argument.Argument, command_line
 use Rattle.cif_tool.specs.declared.job.Inputs.TheVariants.{Extracts, HolidaysAndFile, LeftAndRight}
 use Rattle.cif_tool.specs.declared.job.JobFault.TheVariants.{BadDate, BadUid, Memory, NoCommand, StandardInputTwice, Usage}
 
--- six digits YYMMDD that name a day aren't the word
+-- the word isn't a date
 abbrev pub NamesNoDay : Text → Type 0
-NamesNoDay word = (day : ℕ) → ¬ StandsInYymmdd word day
+NamesNoDay word = (day : ℕ) → ¬ IsDateWord word day
 
 -- the word isn't six bytes from 0x20 to 0x7E
 abbrev pub IsNoUid : Text → Type 0

@@ -1,10 +1,12 @@
 -- What `prepare` and `update` say on standard error of their answer, and the status that they end with.
-use Rattle.std.specs.Prelude.{Bool, Err, List, Ok, Result, [], codes, if◌then◌else◌, ℕ, ◌++◌}
+use Rattle.std.specs.Prelude.{Bool, Err, List, None, Ok, Option, Result, Some, [], codes, if◌then◌else◌, ℕ, ◌++◌}
 use Rattle.std.specs.List.{flat_map}
 use Rattle.cif_feed.specs.{Dropped.dropped_text, FeedAnswer.looks_prepared, FeedTexts.fault_text, Updated.refused_fault}
 use Rattle.cif_feed.specs.declared.{changes.RefusedLine.RefusedLine, dropped.Dropped.Dropped, dropped.DroppedKey.DroppedKey}
 use Rattle.cif_feed.specs.declared.{feed_fault.FeedFault.FeedFault, feed_fault.FeedFault.TheVariants.Extract}
 use Rattle.cif_feed.specs.declared.{updates_in_turn.DoneUpdate.DoneUpdate, updates_in_turn.KeptUpdate.KeptUpdate}
+use Rattle.cif_feed.specs.{Unreached.unreached_of, Unreached.unreached_text}
+use Rattle.cif_feed.specs.declared.{prepare.KeptPrepare.KeptPrepare, unreached.Unreached.Unreached}
 use Rattle.cif_tool.specs.Status.{status_of}
 
 -- a line of an update that was waived
@@ -23,10 +25,15 @@ dropped_line key = codes "cif: dropped: " ++ dropped_text key ++ codes "\n"
 unfoldable pub refused_line : FeedFault → List ℕ
 refused_line fault = codes "cif: " ++ fault_text fault ++ codes "\n"
 
--- what `prepare` says of its answer: of a fault its line, and nothing else
-abbrev pub reported_by_prepare : Result Dropped FeedFault → List ℕ
-reported_by_prepare (Ok dropped) = flat_map dropped_line dropped.keys.items
-reported_by_prepare (Err fault) = refused_line fault
+-- holidays that don't reach the window, if there are some
+unfoldable pub unreached_line : Option Unreached → List ℕ
+unreached_line None = []
+unreached_line (Some unreached) = codes "cif: " ++ unreached_text unreached ++ codes "\n"
+
+-- what `prepare` says of its answer, where it has left this: of a fault its line, and nothing else
+abbrev pub reported_by_prepare : Result Dropped FeedFault → KeptPrepare → List ℕ
+reported_by_prepare (Ok dropped) kept = flat_map unreached_line (unreached_of kept) ++ flat_map dropped_line dropped.keys.items
+reported_by_prepare (Err fault) kept = refused_line fault
 
 -- the line that says that FULL looks prepared, if it does
 unfoldable pub prepared_line : Bool → List ℕ

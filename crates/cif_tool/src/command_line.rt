@@ -7,8 +7,8 @@ ghost use Rattle.cif_tool.specs.CommandLine.{AreChoices, IsCommand, argument, ch
 
 use crate::help;
 use Argument::{
-    All, Common, Date, DropClashes, File, Form, Format, FromDate, Full, Holidays, Left, Lenient,
-    Right, Stops, Table, TableFormat, ToDate, Uid, Updates, Verbose,
+    All, Common, Date, DropClashes, File, Form, Format, FromDate, Full, Holidays, InSequence, Left,
+    Lenient, Right, Stops, Table, TableFormat, ToDate, Uid, Updates, Verbose,
 };
 use clap::{Arg, ArgAction, ArgMatches, Command};
 use std::alloc::{AllocError, Global};
@@ -59,6 +59,7 @@ enum Argument {
     Holidays,
     DropClashes,
     Lenient,
+    InSequence,
     Form,
     Format,
     TableFormat,
@@ -87,6 +88,7 @@ impl Argument {
             Holidays => ("holidays", Syntax::Name, help::HOLIDAYS),
             DropClashes => ("drop-clashes", Syntax::Flag, help::DROP_CLASHES),
             Lenient => ("lenient", Syntax::Flag, help::LENIENT),
+            InSequence => ("in-sequence", Syntax::Flag, help::IN_SEQUENCE),
             Form => ("form", Syntax::Form, help::FORM),
             Format => ("format", Syntax::Format, help::FORMAT),
             TableFormat => ("format", Syntax::TableFormat, help::FORMAT),
@@ -255,7 +257,11 @@ static SUBCOMMANDS: [Parts<'static>; 12] = [
         help::PREPARE,
         &[Verbose, File, Holidays, DropClashes],
     ),
-    ("update", help::UPDATE, &[Verbose, Full, Updates, Lenient]),
+    (
+        "update",
+        help::UPDATE,
+        &[Verbose, Full, Updates, Lenient, InSequence],
+    ),
 ];
 
 /// The program with its subcommands.

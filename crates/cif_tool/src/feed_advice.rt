@@ -294,7 +294,7 @@ impl ExtractInput<'_> {
             message.add_bytes(line.bytes.as_slice());
         }
         message.line(
-            "a line has a code, X, E or G, and dates YYMMDD, in at most 1,000 bytes; # begins a remark",
+            "a line has a code, X, E or G, and dates, YYMMDD or YYYY-MM-DD, in at most 1,000 bytes; # begins a remark",
         );
     }
 }

@@ -2,8 +2,8 @@
 ghost use Rattle.std.specs.Prelude.{◌≡◌, IfErr};
 ghost use Rattle.cif_canon.specs.Appended.{IsAppended};
 ghost use Rattle.cif_feed.specs.FeedAnswer.{AreUpdatesRead, FeedAnswers, IsHandedOn, IsPrepareAnswer, IsPrepareFault, IsPreparedInTurn};
-ghost use Rattle.cif_feed.specs.FeedAnswer.{IsReported, IsUpdateAnswer, IsUpdateFault, OfHolidays, OfUpdates, reported_of};
-ghost use Rattle.cif_tool.specs.Reported.{dropped_line, feed_status_of, prepared_line, refused_line, waived_line};
+ghost use Rattle.cif_feed.specs.FeedAnswer.{IsReported, IsUpdateAnswer, IsUpdateFault, OfHolidays, OfUpdates, prepare_reported, reported_of};
+ghost use Rattle.cif_tool.specs.Reported.{dropped_line, feed_status_of, prepared_line, refused_line, unreached_line, waived_line};
 ghost use Rattle.cif_tool.specs.Reported.{reported_by_prepare, reported_by_update, reported_status};
 
 use crate::job::{PrepareJob, UpdateJob};
@@ -12,13 +12,14 @@ use arrayvec::ArrayString;
 use cif_canon::writing::{Texts, append, write_each};
 use cif_columns::{ReadDevice, Sink, Source, WriteDevice};
 use cif_feed::{
-    DoneUpdate, Dropped, DroppedKey, FeedFault, KeptPrepare, KeptUpdate, RefusedLine,
+    DoneUpdate, Dropped, DroppedKey, FeedFault, KeptPrepare, KeptUpdate, RefusedLine, Unreached,
     answer_prepare, answer_update,
 };
 use std::alloc::Global;
 
 /// Writes the prepared extract of what the source gives, with the holidays that the other source gives, if there is
-/// one. The keys that were dropped, or a fault's line, go to `errors`; that they can't be written changes no status.
+/// one. Which holidays don't reach and the keys that were dropped, or a fault's line, go to `errors`; that they can't be
+/// written changes no status.
 pub fn run_prepare<R: ReadDevice, W: WriteDevice, E: WriteDevice>(
     alloc: Global,
     job: &PrepareJob,
@@ -27,7 +28,7 @@ pub fn run_prepare<R: ReadDevice, W: WriteDevice, E: WriteDevice>(
     sink: &mut Sink<W>,
     errors: &mut Sink<E>,
 ) -> Ended<Result<Dropped, FeedFault>, KeptPrepare>
-    ensures answer { FeedAnswers W.contents W.write_errors (λ dropped. dropped)
+    ensures answer { FeedAnswers W.contents W.write_errors (prepare_reported result.kept)
         (λ text reported. OfHolidays R.remaining
         (λ given bytes. IsReported (IsPrepareAnswer job.now.drop_clashes given bytes text) reported)
         holidays.old source.old) sink.old sink.new result.answer }
@@ -36,7 +37,8 @@ pub fn run_prepare<R: ReadDevice, W: WriteDevice, E: WriteDevice>(
     ensures reads { IsPreparedInTurn R.remaining R.read_errors
         holidays.old holidays.new source.old source.new result.answer }
     ensures handed_on { IsHandedOn W.holds_nothing sink.new result.answer }
-    ensures reported { IsAppended E.contents E.write_errors (reported_by_prepare result.answer) errors.old errors.new }
+    ensures reported { IsAppended E.contents E.write_errors (reported_by_prepare result.answer result.kept)
+        errors.old errors.new }
     ensures status { result.status ≡ reported_status result.answer }
 {
     let mut kept = KeptPrepare {
@@ -44,7 +46,7 @@ pub fn run_prepare<R: ReadDevice, W: WriteDevice, E: WriteDevice>(
         holidays: None,
     };
     let answer = answer_prepare(alloc, holidays, source, sink, job.drop_clashes, &mut kept);
-    let status = end_prepare(&answer, errors);
+    let status = end_prepare(&answer, &kept, errors);
     Ended {
         answer,
         status,
@@ -64,11 +66,11 @@ pub fn run_update<R: ReadDevice, W: WriteDevice, E: WriteDevice>(
 ) -> Ended<Result<(), FeedFault>, KeptUpdate>
     ensures answer { FeedAnswers W.contents W.write_errors (λ _. reported_of result.kept)
         (λ text reported. OfUpdates R.remaining
-        (λ bytes given. IsReported (IsUpdateAnswer job.now.lenient bytes given text) reported)
+        (λ bytes given. IsReported (IsUpdateAnswer job.now.waived bytes given text) reported)
         full.old updates.old) sink.old sink.new result.answer }
     ensures fault { OfUpdates R.remaining
-        (λ bytes given. IfErr result.answer (IsUpdateFault job.now.lenient bytes given)) full.old updates.old }
-    ensures reads { AreUpdatesRead R.remaining R.read_errors (λ _. result.kept.done.items) job.now.lenient
+        (λ bytes given. IfErr result.answer (IsUpdateFault job.now.waived bytes given)) full.old updates.old }
+    ensures reads { AreUpdatesRead R.remaining R.read_errors (λ _. result.kept.done.items) job.now.waived
         full.old full.new updates.old updates.new result.answer }
     ensures handed_on { IsHandedOn W.holds_nothing sink.new result.answer }
     ensures reported { IsAppended E.contents E.write_errors (reported_by_update result.answer result.kept)
@@ -80,7 +82,7 @@ pub fn run_update<R: ReadDevice, W: WriteDevice, E: WriteDevice>(
         full: None,
         done: Vec::new(alloc),
     };
-    let answer = answer_update(alloc, full, updates, sink, job.lenient, &mut kept);
+    let answer = answer_update(alloc, full, updates, sink, job.waived, &mut kept);
     let status = end_update(&answer, &kept, errors);
     Ended {
         answer,
@@ -89,14 +91,19 @@ pub fn run_update<R: ReadDevice, W: WriteDevice, E: WriteDevice>(
     }
 }
 
-/// Reports the answer of `prepare`, or why there is none, and gives the status that the program exits
-/// with. That it can't be written changes no status.
-fn end_prepare<W: WriteDevice>(answer: &Result<Dropped, FeedFault>, errors: &mut Sink<W>) -> u8
+/// Reports the answer of `prepare`, where it has left this, or why there is none, and gives the status
+/// that the program exits with. That it can't be written changes no status.
+fn end_prepare<W: WriteDevice>(
+    answer: &Result<Dropped, FeedFault>,
+    kept: &KeptPrepare,
+    errors: &mut Sink<W>,
+) -> u8
     ensures status { result ≡ reported_status answer.now }
-    ensures reported { IsAppended W.contents W.write_errors (reported_by_prepare answer.now) errors.old errors.new }
+    ensures reported { IsAppended W.contents W.write_errors (reported_by_prepare answer.now kept.now) errors.old errors.new }
 {
     match answer {
         Ok(dropped) => {
+            write_each(&UnreachedLines, &kept.unreached(), errors);
             write_each(&DroppedLines, dropped.keys.as_slice(), errors);
             DONE
         }
@@ -178,6 +185,20 @@ fn dropped_line(key: &DroppedKey) -> ArrayString<LONGEST_DROPPED>
     line
 }
 
+/// The line of holidays that don't reach the window, if there are some.
+#[tactic(auto, unfolding(crate::specs::Reported::unreached_line))]
+fn unreached_line(unreached: Option<Unreached>) -> ArrayString<LONGEST_LINE>
+    ensures { result.bytes ≡ unreached_line unreached }
+{
+    let mut line = ArrayString::new();
+    if let Some(unreached) = unreached {
+        line.push_str("cif: ");
+        line.push_str(unreached.text().as_str());
+        line.push_str("\n");
+    }
+    line
+}
+
 /// The line that says that FULL looks prepared, if it does.
 #[tactic(auto, unfolding(crate::specs::Reported::prepared_line))]
 fn prepared_line(looks_prepared: bool) -> ArrayString<LONGEST_LINE>
@@ -188,6 +209,19 @@ fn prepared_line(looks_prepared: bool) -> ArrayString<LONGEST_LINE>
         line.push_str("cif: FULL has no open end and no holiday code, as if it were prepared\n");
     }
     line
+}
+
+/// The lines of holidays that don't reach the window.
+struct UnreachedLines;
+
+impl Texts<Option<Unreached>> for UnreachedLines {
+    ghost use Rattle.cif_tool.specs.Reported.{unreached_line};
+
+    ghost text = { λ _ unreached. unreached_line unreached };
+
+    fn write<W: WriteDevice>(&self, unreached: &Option<Unreached>, sink: &mut Sink<W>) {
+        append(unreached_line(*unreached).as_str(), sink);
+    }
 }
 
 /// The lines of keys of which nothing runs on some dates.

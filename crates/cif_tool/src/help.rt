@@ -5,7 +5,7 @@ pub(crate) const CIF: &str = "\
 Works out what runs on each date of a CIF timetable extract
 Each command reads full extracts: lines of 80 columns, from HD to ZZ. Those
 with holiday codes, open end dates, notes or comments go through `cif prepare`
-first, and update extracts through `cif update`. A date is six digits, YYMMDD.
+first, and update extracts through `cif update`. A date is 260114 or 2026-01-14.
 Faults go to standard error; --verbose says more about them. `cif help COMMAND`
 says what a command prints.
 
@@ -244,7 +244,11 @@ a holiday code is split at its holidays, on which it doesn't run.
 A line of --holidays is a code, X, E or G, and dates, in at most 1,000 bytes;
 # begins a remark:
   X 260406 260504   # bank holiday Mondays
-  E 260420          # Edinburgh; G is Glasgow
+  E 2026-04-20      # Edinburgh; G is Glasgow
+If a code's last date is more than 250 days before the window's last date, or
+its first date more than 250 days after the window's first date, standard error
+says so:
+  cif: holidays of X: YYMMDD to YYMMDD, the window: YYMMDD to YYMMDD
 With --drop-clashes nothing of a train or an association runs on the dates on
 which it has a clash, and standard error names these: the first, and how many
 more there are.
@@ -273,14 +277,15 @@ reference is neither blank nor the current reference of that extract. It is
 refused, too, where it puts a record that is there already, or changes or
 deletes one that isn't there. With --lenient it is done all the same: it
 replaces the record that is there, puts the one that isn't, or deletes nothing.
-Then standard error names each line that didn't fit:
+With --lenient --in-sequence an update that doesn't follow is still refused.
+With --lenient, standard error names each line that didn't fit:
   cif: line N: OutOfSequence (waived)
   cif: line N: AlreadyThere (waived)
   cif: line N: NotThere (waived)
 
 Examples:
   cif update full.cif update.cif > new.cif
-  cif update --lenient full.cif monday.cif tuesday.cif > new.cif
+  cif update --lenient --in-sequence full.cif update.cif > new.cif
 
 Statuses:
   0  success
@@ -301,7 +306,7 @@ pub(crate) const UPDATES: &str = "The update extracts, in their order; - is stan
 pub(crate) const TABLES: &str =
     "header, tiplocs, associations, schedules, calls, changes or public";
 
-pub(crate) const DATE: &str = "The date, such as 260114 for 14 January 2026";
+pub(crate) const DATE: &str = "The date, such as 260114 or 2026-01-14";
 
 pub(crate) const UID: &str = "The UID of the train: six characters; quote it if it has a space";
 
@@ -322,6 +327,8 @@ pub(crate) const HOLIDAYS: &str = "The dates of the holiday codes; - is standard
 pub(crate) const DROP_CLASHES: &str = "Leave out what has a clash, on the dates of the clash";
 
 pub(crate) const LENIENT: &str = "Go on if an update doesn't follow, or a line doesn't fit";
+
+pub(crate) const IN_SEQUENCE: &str = "With --lenient, refuse an update that doesn't follow";
 
 pub(crate) const FORM: &str = "Form of records";
 

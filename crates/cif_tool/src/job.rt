@@ -6,6 +6,7 @@ use crate::status::{DONE, FAILED, USAGE_ERROR, end};
 use cif_canon::Asked;
 use cif_columns::{Day, Sink, Uid, WriteDevice};
 use cif_extract::Fault;
+use cif_feed::Waived;
 use cif_rows::Format;
 use cif_views::{Listing, Table};
 use cif_weeks::Form;
@@ -163,8 +164,8 @@ pub struct PrepareJob {
 /// What `update` is asked for.
 #[derive(Clone, Copy)]
 pub struct UpdateJob {
-    /// Whether a line whose key is there already, or isn't there, is waived.
-    pub lenient: bool,
+    /// Which lines that don't fit are waived.
+    pub waived: Waived,
 }
 
 /// Why a call of `cif` asks for nothing.
@@ -174,7 +175,7 @@ pub enum JobFault {
     Usage { kind: ErrorKind, text: String },
     /// `clap` takes the words, but enters no subcommand of the program's own.
     NoCommand,
-    /// A word that stands for a date isn't six digits YYMMDD that name one.
+    /// A word that stands for a date names none, YYMMDD or YYYY-MM-DD.
     BadDate,
     /// A word that stands for a UID isn't six bytes from 0x20 to 0x7E.
     BadUid,

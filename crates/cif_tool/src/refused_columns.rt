@@ -3,7 +3,10 @@ use crate::words::day_of_word;
 use cif_columns::{Day, PublicTime, Refusal, WorkTime, is_printable};
 use cif_feed::HolidayCode;
 
-pub(crate) const YYMMDD: &str = "must be a valid date as six digits, YYMMDD";
+const YYMMDD: &str = "must be a valid date as six digits, YYMMDD";
+
+/// What a word must be that stands for a date.
+pub(crate) const DATE_WORD: &str = "must be a valid date, YYMMDD or YYYY-MM-DD";
 
 /// For which columns a reason can refuse a line: the reason, with which letters the line begins, and the first and the
 /// last column, counted from 1.
@@ -111,7 +114,7 @@ pub(crate) fn holiday_refused(line: &str) -> Option<(usize, usize, &'static str)
                 return Some((first, last, "a code is X, E or G"));
             }
             if !is_first && day_of_word(word).is_none() {
-                return Some((first, last, YYMMDD));
+                return Some((first, last, DATE_WORD));
             }
             is_first = false;
         }

@@ -1,9 +1,8 @@
 //! What is said of a mistaken word.
 use crate::job::JobFault;
 use crate::message::{Escaped, Message, Verbosity};
-use crate::refused_columns::YYMMDD;
+use crate::refused_columns::DATE_WORD;
 use crate::words::bad_word;
-use arrayvec::ArrayString;
 use cif_columns::Sink;
 use std::alloc::Global;
 use std::io::Stderr;
@@ -30,10 +29,7 @@ pub(crate) fn advise_on_word(
         }
         JobFault::BadDate => {
             if let Some(word) = bad_word(alloc, words, fault, verbosity) {
-                add_word(word, YYMMDD, &mut message);
-                if let Some(date) = written_as_iso(word) {
-                    message.line(format_args!("dates are YYMMDD: {date}"));
-                }
+                add_word(word, DATE_WORD, &mut message);
             }
         }
         JobFault::Usage { kind: _, text: _ } => match words.get(1).map(String::as_str) {
@@ -54,19 +50,4 @@ fn add_word(word: &str, must_be: &str, message: &mut Message) {
         has_lines: false,
     };
     message.line(format_args!("'{shown}': {must_be}"));
-}
-
-/// The digits of a date YYYY-MM-DD, as YYMMDD.
-fn written_as_iso(word: &str) -> Option<ArrayString<6>> {
-    let mut date = ArrayString::new();
-    for (at, byte) in word.bytes().enumerate() {
-        match (at, byte) {
-            (4 | 7, b'-') => {}
-            (4 | 7, _) => return None,
-            (0 | 1, b'0'..=b'9') => {}
-            (_, b'0'..=b'9') => date.try_push(char::from(byte)).ok()?,
-            _ => return None,
-        }
-    }
-    (date.len() == 6).then_some(date)
 }

@@ -2,11 +2,11 @@
 ghost use Rattle.std.specs.Prelude.{◌≡◌, ◌≢◌, ◌⊎◌, ◌<◌, ◌≤◌, ◌∷◌, IfErr, IfOk, IsSomeAnd};
 ghost use Rattle.std.specs.Prelude.{MatchOption, String, codes, false, map, option_map, string_bytes, true};
 ghost use Rattle.clap.specs.Words.{all_of, first_of, found_of, kind_of, rows_of, subcommand_rows_of};
-ghost use Rattle.cif_columns.specs.Day.{StandsInYymmdd};
+ghost use Rattle.cif_columns.specs.DateWord.{IsDateWord};
 ghost use Rattle.cif_tool.specs.CommandLine.{feed_subcommands};
 ghost use Rattle.cif_tool.specs.Job.{Asks, IsAskedBy, IsChosen, IsDateOf, IsRequestChosen};
 ghost use Rattle.cif_tool.specs.Job.{IsTaskChosen, IsUidWord, file_of, form_of, format_of, has_flag, inputs_of, is_standard, listing_of};
-ghost use Rattle.cif_tool.specs.Job.{names_of, required_word, standard_inputs, table_format_of, table_of};
+ghost use Rattle.cif_tool.specs.Job.{names_of, required_word, standard_inputs, table_format_of, table_of, waived_of};
 ghost use Rattle.cif_tool.specs.JobFault.{HasBadDate, HasBadWindow, IsAskedFor, IsEnteredFault};
 ghost use Rattle.cif_tool.specs.JobFault.{IsFaultOf, IsNoUid, IsNoneOf, NamesNoDay, several_of};
 
@@ -18,6 +18,7 @@ use crate::job::{
 use crate::message::{Escaped, Verbosity};
 use cif_canon::Asked;
 use cif_columns::{Day, Uid, are_printable};
+use cif_feed::Waived;
 use cif_rows::Format;
 use cif_views::{Listing, Table};
 use cif_weeks::Form;
@@ -138,7 +139,7 @@ fn named_task(name: &str, matches: &ArgMatches<'_>) -> Result<Task, JobFault>
             drop_clashes: has_flag(matches, "drop-clashes"),
         }))),
         "update" => Ok(Task::Feed(FeedJob::Update(UpdateJob {
-            lenient: has_flag(matches, "lenient"),
+            waived: waived_of(matches),
         }))),
         _ => Ok(Task::Extract(named_job(name, matches)?)),
     }
@@ -350,9 +351,9 @@ fn date_of(matches: &ArgMatches<'_>, id: &str) -> Result<Option<Day>, JobFault>
     }
 }
 
-/// The day that the word YYMMDD names.
+/// The day that the word under YYMMDD names.
 fn day_of(matches: &ArgMatches<'_>) -> Result<Day, JobFault>
-    ensures ok { IfOk result (StandsInYymmdd (required_word (codes "YYMMDD") (rows_of (found_of matches.now)))) }
+    ensures ok { IfOk result (IsDateWord (required_word (codes "YYMMDD") (rows_of (found_of matches.now)))) }
     ensures err { IfErr result (λ fault. (fault ≡ JobFault.BadDate)
         × NamesNoDay (required_word (codes "YYMMDD") (rows_of (found_of matches.now)))) }
 {
@@ -413,6 +414,19 @@ fn has_flag(matches: &ArgMatches<'_>, id: &str) -> bool
     matches!(word_of(matches, id), Some("true"))
 }
 
+/// What the words waive.
+fn waived_of(matches: &ArgMatches<'_>) -> Waived
+    ensures { result ≡ waived_of (rows_of (found_of matches.now)) }
+{
+    if !has_flag(matches, "lenient") {
+        Waived::Nothing
+    } else if has_flag(matches, "in-sequence") {
+        Waived::Keys
+    } else {
+        Waived::Everything
+    }
+}
+
 /// The listing that the words name.
 fn listing_of(matches: &ArgMatches<'_>) -> Listing
     ensures { result ≡ listing_of (rows_of (found_of matches.now)) }
@@ -440,12 +454,9 @@ fn table_of(word: &str) -> Table
     }
 }
 
-/// The day that six digits YYMMDD name.
+/// The day that a word names, YYMMDD or YYYY-MM-DD.
 pub(crate) fn day_of_word(word: &str) -> Option<Day>
-    ensures { MatchOption result (NamesNoDay word.now) (StandsInYymmdd word.now) }
+    ensures { MatchOption result (NamesNoDay word.now) (IsDateWord word.now) }
 {
-    match <[u8; 6]>::try_from(word.as_bytes()) {
-        Ok(columns) => Day::from_yymmdd(&columns),
-        Err(_) => None,
-    }
+    Day::from_word(word.as_bytes())
 }

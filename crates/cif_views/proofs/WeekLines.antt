@@ -179,6 +179,8 @@ module _ (first last : ℕ) (state_on : ℕ → DayState) (d : ℕ) (from : firs
             (lines-are ws ∙ ap text_of (ap (map line) parts ∙ map-append line before (week ∷ after)))
             ∙ ap (λ (m : List ℕ). text_of (heading ∷ (map line before ++ ((m ++ (space ∷ cells week)) ∷ map line after))))
             (monday-by (nat_lt d weekday) refl);
+        heading = refl;
+        seven = refl;
         at = cell-at;
       }
 

@@ -1,5 +1,6 @@
 -- The calendar of a train: a line for each week, with a character for each day.
-use Rattle.std.specs.Prelude.{◌≡◌, ◌↔◌, ◌⊎◌, ℕ, ◌+◌, ◌-◌, ◌*◌, ◌≤◌, List, [], ◌∷◌, ◌++◌, Some, codes, map, nat_lt, slice_get, if◌then◌else◌}
+use Rattle.std.specs.Prelude.{◌≡◌, ◌↔◌, ◌⊎◌, ℕ, ◌+◌, ◌-◌, ◌*◌, ◌≤◌, List, [], ◌∷◌, ◌++◌, Some, codes, length, map, nat_lt, slice_get}
+use Rattle.std.specs.Prelude.{if◌then◌else◌}
 use Rattle.std.specs.List.{flat_map, range_with_len}
 use Rattle.cif_calendar.specs.{Clash.IsClear, DayState.IsDayState, Entries.schedule_entries, Keys.of_key, Runs.Runs}
 use Rattle.cif_calendar.specs.declared.day_state.DayState.{DayState}
@@ -63,12 +64,15 @@ monday_of d = if nat_lt d (weekday_of d) then codes "      " else yymmdd_of (d -
 abbrev pub text_of : List (List ℕ) → List ℕ
 text_of lines = flat_map (λ line. line ++ codes "\n") lines
 
--- Character c is shown of date d: a line has the date of its Monday, a space, and c at its weekday.
+-- Character c is shown of date d: of the lines after the heading, one has the date of its Monday, a space, and seven characters, of which c
+-- is at its weekday.
 pub record IsShown (text : List ℕ) (d c : ℕ) : Type 0 where
   pub before : List (List ℕ)
   pub after : List (List ℕ)
   pub days : List ℕ
   pub text_is : text ≡ text_of (before ++ ((monday_of d ++ (space ∷ days)) ∷ after))
+  pub heading : slice_get before 0 ≡ Some (codes "       MTWTFSS")
+  pub seven : length days ≡ 7
   pub at : slice_get days (weekday_of d) ≡ Some c
 
 -- a letter other than C

@@ -1,10 +1,11 @@
 -- Where changes stand, for the contracts of the steps of doing them. A map is seen as the value at each key.
-use Rattle.std.specs.Prelude.{Bool, Err, List, None, Ok, Option, Result, Some, [], false, if◌then◌else◌, slice_get, true, unwrap_or, ℕ}
+use Rattle.std.specs.Prelude.{Bool, Err, List, None, Ok, Option, Result, Some, [], false, if◌then◌else◌, true, unwrap_or, ℕ}
 use Rattle.std.specs.Prelude.{◌&&◌, ◌+◌, ◌==◌, ◌∷◌, ◌≡◌}
 use Rattle.std.specs.{Option.option_or, Ordering.eq_by_cmp, declared.cmp.Ordering.Ordering}
 use Rattle.cif_feed.specs.declared.{changes.RefusedLine.RefusedLine, feed_fault.FeedFault.FeedFault, update.Outcome.Outcome}
 use Rattle.cif_feed.specs.declared.changes.Unfit.TheVariants as unfit
 use Rattle.cif_feed.specs.declared.feed_fault.FeedFault.TheVariants.{NotThere, AlreadyThere, OutOfSequence}
+use Rattle.cif_feed.specs.{Waived.first_refused, declared.changes.Waived.Waived}
 use Rattle.cif_feed.specs.Changes.{ChangeParts, is_changed, is_there}
 
 -- two keys are the same by what stands for them
@@ -44,13 +45,10 @@ abbrev pub last_line : ℕ → List RefusedLine → ℕ
 last_line previous [] = previous
 last_line previous (r ∷ refused) = last_line r.line refused
 
--- what is answered of lines that may not be done: they are waived, where the update is lenient or there are none; else it is the first
-abbrev pub IsDone : Bool → List RefusedLine → Result Outcome FeedFault → Type 0
-IsDone lenient waived (Ok done) = (done.waived.items ≡ waived) × (lenient ≡ false → waived ≡ [])
-IsDone lenient waived (Err (OutOfSequence line)) =
-    (lenient ≡ false) × (slice_get waived 0 ≡ Some (record { line = line; why = unfit.OutOfSequence }))
-IsDone lenient waived (Err (NotThere line)) =
-    (lenient ≡ false) × (slice_get waived 0 ≡ Some (record { line = line; why = unfit.NotThere }))
-IsDone lenient waived (Err (AlreadyThere line)) =
-    (lenient ≡ false) × (slice_get waived 0 ≡ Some (record { line = line; why = unfit.AlreadyThere }))
-IsDone lenient waived (Err fault) = ⊥
+-- what is answered of lines that may not be done: they are waived, or it is the first that isn't
+abbrev pub IsDone : Waived → List RefusedLine → Result Outcome FeedFault → Type 0
+IsDone how lines (Ok done) = (done.waived.items ≡ lines) × (first_refused how lines ≡ None)
+IsDone how lines (Err (OutOfSequence line)) = first_refused how lines ≡ Some (record { line = line; why = unfit.OutOfSequence })
+IsDone how lines (Err (NotThere line)) = first_refused how lines ≡ Some (record { line = line; why = unfit.NotThere })
+IsDone how lines (Err (AlreadyThere line)) = first_refused how lines ≡ Some (record { line = line; why = unfit.AlreadyThere })
+IsDone how lines (Err fault) = ⊥

@@ -10,7 +10,7 @@ pub returns-clause-update : goal.returns-clause-update
 returns-clause-update c max bytes after x result s = update_as max bytes after x s result
 
 pub returns-clause-updated : goal.returns-clause-updated
-returns-clause-updated c lenient max old bytes after u fault s may = updated_blames_none lenient max old bytes after u s may fault
+returns-clause-updated c how max old bytes after u fault s may = updated_blames_none how max old bytes after u s may fault
 
 pub returns-clause-judged : goal.returns-clause-judged
 returns-clause-judged c max bytes after x result s = judged_as max bytes x s after result

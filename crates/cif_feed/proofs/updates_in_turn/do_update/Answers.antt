@@ -9,7 +9,7 @@ returns g c = elim c.match-push.branch [
     record { header = c.update_from.new.self.header; outcome = c.in_ok-outcome.outcome },
     w.in-Ok.ensures.items,
     refl,
-    c.in_ok-outcome.ensures,
+    c.in_ok-outcome.ensures.reads,
   )
-  | in-Err w ↦ rw w.result-is (none-listed _ _ _ _ _ _ _ c.in_ok-outcome.outcome c.in_ok-outcome.ensures)
+  | in-Err w ↦ rw w.result-is (none-listed _ _ _ _ _ _ _ c.in_ok-outcome.outcome c.in_ok-outcome.ensures.reads)
 ]

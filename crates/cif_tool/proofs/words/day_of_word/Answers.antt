@@ -1,15 +1,15 @@
--- `named`: where `found` and `only` give no day, none stands in the word; and the columns that are read are the word's.
-use Rattle.cif_tool.proofs.Names.{IfSome, List, MatchOption, NamesNoDay, None, Option, Some, StandsInYymmdd, rules, subst, ℕ, ◌≡◌}
+-- Where `found` and `only` give no day, the word names none.
+use Rattle.cif_tool.proofs.Names.{IfSome, List, MatchOption, NamesNoDay, None, Option, Some, rules, subst, ℕ, ◌≡◌}
 use Rattle.cif_tool.proofs.words.day_of_word.Goals as goal
+use Rattle.cif_columns.specs.DateWord.{IsDateWord}
 
-named : (columns : List ℕ) (o : Option ℕ) → IfSome o (StandsInYymmdd columns) → ((n : ℕ) → StandsInYymmdd columns n → o ≡ Some n) →
-    MatchOption o (NamesNoDay columns) (StandsInYymmdd columns)
-named columns None found only = λ n stands. let none = only n stands in cc
-named columns (Some day) found only = found
+named : (word : List ℕ) (o : Option ℕ) → IfSome o (IsDateWord word) → ((n : ℕ) → IsDateWord word n → o ≡ Some n) →
+    MatchOption o (NamesNoDay word) (IsDateWord word)
+named word None found only = λ n stands. let none = only n stands in cc
+named word (Some day) found only = found
 
-pub returns-in-Ok : goal.returns-in-Ok
-returns-in-Ok c =
-    let same : c.in-Ok.columns ≡ c.args.word.now = search rules in
-    let read = c.from_yymmdd in
-    subst (λ (w : List ℕ). MatchOption read.result (NamesNoDay w) (StandsInYymmdd w)) same
-    (named c.in-Ok.columns read.result read.ensures.found read.ensures.only)
+pub returns : goal.returns
+returns c =
+    let same : c.as_bytes.result.now ≡ c.args.word.now = search rules in
+    subst (λ (w : List ℕ). MatchOption c.from_word.result (NamesNoDay w) (IsDateWord w)) same
+    (named c.as_bytes.result.now c.from_word.result c.from_word.ensures.found c.from_word.ensures.only)
