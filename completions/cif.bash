@@ -49,8 +49,7 @@ _cif() {
         --format)
             case $command in
             table) _cif_offer 'tsv json' ;;
-            diff | clashes | calendar) _cif_offer 'text tsv json' ;;
-            *) _cif_offer 'text tsv' ;;
+            *) _cif_offer 'text tsv json' ;;
             esac
             ;;
         --holidays) compopt -o default ;;

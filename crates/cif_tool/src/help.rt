@@ -113,7 +113,8 @@ With --stops a line for each call of a train follows its own (LO, LI or LT):
   PLATFORM PATH LINE ACTIVITIES
 Fields have their full width, with one space between them. --format tsv prints
 a table instead: field names in the first line, tabs between fields, no padding.
-Each call is then a row that begins with its train's fields.
+Each call is then a row that begins with its train's fields. --format json
+prints an object a line, in which a train's calls are a list.
 
 Examples:
   cif day 260114 extract.cif
@@ -129,7 +130,7 @@ pub(crate) const TRAIN: &str = "\
 Lists the schedules of one train
 Prints a line for each schedule that the train has in the canonical extract:
   FIRST LAST DAYS IDENTITY ORIGIN DEPARTURE PLATFORM TERMINUS ARRIVAL PLATFORM
---stops and --format tsv work as in `cif day`.
+--stops and --format work as in `cif day`.
 Form 1 joins weeks that have the same days. Form 2 also joins a week that the
 window cuts, if its remaining days match the other week's. Form 3 has the fewest
 records: each goes on as long as can be, in whatever weeks.
@@ -151,7 +152,7 @@ its associations first:
   MARK BS LETTER FIRST LAST DAYS and what `cif day` prints after BS
 MARK is `wins`, `hidden` (a record with an earlier letter wins) or `clash`
 (two winners differ). A cancellation (letter C) has only the UID there, and one
-of an association only its key. --format tsv prints a table, as `cif day` does.
+of an association only its key. --format works as in `cif day`.
 
 Example:
   cif explain C00123 260114 extract.cif
