@@ -7,3 +7,4 @@ pub mod Names
 pub mod NestedRows
 pub mod Quoted
 pub mod RowTexts
+pub mod ToldRows

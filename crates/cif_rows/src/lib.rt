@@ -5,6 +5,7 @@
 #![tactic(auto)]
 
 mod format;
+pub mod laws;
 mod numeral;
 mod rows;
 mod shape;
