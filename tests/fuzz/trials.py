@@ -202,12 +202,23 @@ def sides_changed(table: bytes) -> List[bytes]:
     return sorted(b"\t".join(row) for row in [heading, *rows])
 
 
+def of_json(job: Job, inputs: Inputs) -> Iterator[Trial]:
+    """What has rows in JSON has a table."""
+    table = job._replace(format="tsv")
+    yield Trial("the same as a table", table, inputs, answer(table, inputs))
+
+
 def of_diff(job: Job, inputs: Inputs, want: Answer) -> Iterator[Trial]:
+    if job.format == "json":
+        return of_json(job, inputs)
     return (of_difference_table if job.format == "tsv" else of_differences)(job, inputs, want)
 
 
 def of_explanation(job: Job, inputs: Inputs, want: Answer) -> Iterator[Trial]:
     """What wins on a date is what day says, where there is no clash, and the only record of a canonical extract."""
+    if job.format == "json":
+        yield from of_json(job, inputs)
+        return
     if job.format == "tsv":
         text = job._replace(format=None)
         yield Trial("the same as text", text, inputs, answer(text, inputs))

@@ -45,7 +45,8 @@ COMMANDS |= {"table": 14, "calendar": 7} if HAS_TABLES else {}
 # Of more bytes of standard input, whether the first lines are still known at the end depends on the reads.
 ALWAYS_KEPT = 32_768
 
-FORMATS, NO_FORMATS = (None, None, "text", "tsv", "tsv", "tsv"), ("csv", "TSV", "", "tsv ")
+FORMATS, NO_FORMATS = (None, None, "text", "tsv", "tsv", "json", "json"), ("csv", "TSV", "", "tsv ")
+TABLE_FORMATS = (None, "tsv", "json", "json")
 NO_TABLES = ("stops", "Calls", "call", "", "schedules ")
 FORMS = (None, None, "1", "2", "3", "3")
 NO_FORMS = ("4", "0", "", "12", "1 ", "one")
@@ -271,8 +272,9 @@ def with_options(rng: Random, job: Job, timetable: Timetable, odds: Odds) -> Job
     if "all" in taken:
         job = job._replace(all=rng.random() < 0.5)
     if "format" in taken and HAS_TABLES:
+        formats = TABLE_FORMATS if job.command == "table" else FORMATS
         job = job._replace(
-            format=rng.choice(FORMATS if rng.random() > odds["mistake"] else NO_FORMATS)
+            format=rng.choice(formats if rng.random() > odds["mistake"] else NO_FORMATS)
         )
     return job._replace(verbose=rng.random() < 0.5)
 
@@ -313,7 +315,7 @@ def small_views(rng: Random, timetable: Timetable) -> List[Tuple[Job, List[bytes
     uid, data = rng.choice([*(uid_of(rng, record) for record in records), "NONE  "]), some_bytes(
         rng, timetable
     )
-    day, layout = yymmdd(timetable.window[0]), rng.choice(["text", "tsv"])
+    day, layout = yymmdd(timetable.window[0]), rng.choice(["text", "tsv", "json"])
     jobs = [
         Job("calendar", uid=uid),
         Job("train", uid=uid, format=layout),

@@ -12,6 +12,7 @@ from .explanation import explanation
 from .extracts import Extract, common_of, extract_of, narrowed, read_extract, window_of
 from .faults import REFUSED, WORDS, Fault, of_input
 from .holidays import read_holidays
+from .json_rows import rows_of
 from .meaning import Meaning, all_clashes, clash_dates, first_difference
 from .reasons import all_reasons, listed
 from .verbose import Input
@@ -67,9 +68,9 @@ OPTIONS = {
     "day": {"stops", "format"},
     "train": {"first", "last", "form", "stops", "format"},
     "explain": {"format"},
-    "clashes": {"first", "last"},
-    "table": {"first", "last", "form"},
-    "calendar": {"first", "last"},
+    "clashes": {"first", "last", "format"},
+    "table": {"first", "last", "form", "format"},
+    "calendar": {"first", "last", "format"},
     "prepare": {"holidays", "drop_clashes"},
     "update": {"lenient", "in_sequence"},
 }
@@ -200,15 +201,24 @@ def of_extracts(
 
 def said(job: Job, day: Optional[date], extracts: List[Extract]) -> Tuple[List[str], int]:
     """The same of extracts that have the window asked for, in which the day lies if there is one."""
-    as_table = job.format == "tsv"
+    lines, status = laid_out(job, day, extracts)
+    return rows_of(lines, job.command, job.stops) if job.format == "json" else lines, status
+
+
+def laid_out(job: Job, day: Optional[date], extracts: List[Extract]) -> Tuple[List[str], int]:
+    """The same, with the lines of a table for JSON."""
+    as_table = job.format in ("tsv", "json")
     if job.command == "explain":
         assert job.uid is not None and day is not None
         return (tables.explanation_table if as_table else explanation)(extracts[0], job.uid, day), 0
+    if job.command == "clashes" and as_table:
+        heading, *rows = tables.clash_table(extracts[0])
+        return [heading, *rows], SOME if rows else 0
     if job.command == "clashes":
         return some_or_none(list(all_clashes(extracts[0]).values()))
     if job.command == "calendar":
         assert job.uid is not None
-        return calendar(extracts[0], job.uid), 0
+        return (tables.calendar_table if as_table else calendar)(extracts[0], job.uid), 0
     meanings = []
     for at, extract in enumerate(extracts):
         with of_input(at):
@@ -268,7 +278,7 @@ def is_mistake(job: Job) -> bool:
     given = {name for name in names if getattr(job, name) not in (None, False)}
     taken = (
         job.form in (None, "1", "2", "3")
-        and job.format in (None, "text", "tsv")
+        and job.format in (None, "tsv", "json", *(["text"] if job.command != "table" else []))
         and job.table in (None, *tables.TABLES)
     )
     count = len(job.files)

@@ -5,7 +5,8 @@ from datetime import date
 from typing import List, Optional, Sequence, Tuple
 
 from . import values
-from .dates import Window, day_of
+from .calendars import CLASH, NO_RECORD, sign_on
+from .dates import Window, dates_of, day_of
 from .explanation import explained
 from .extracts import Body, Extract, Running
 from .layouts import (
@@ -18,7 +19,7 @@ from .layouts import (
     plain,
     window_of,
 )
-from .meaning import Meaning
+from .meaning import Meaning, clash_dates
 from .public import Call, public_calls
 from .texts import of_one_side, record_lines
 from .weeks import joined
@@ -426,3 +427,35 @@ def difference_table(left: Meaning, right: Meaning) -> List[str]:
     rows += rows_of_kind("AA", ASSOCIATION_KEY, left.associations, right.associations, left.window)
     rows += rows_of_kind("BS", TRAIN_KEY, left.trains, right.trains, left.window)
     return lines_of(OF_DIFFERENCE, rows)
+
+
+# ---- of clashes and calendars
+
+OF_CLASH_KEY = ["base_uid", "associated_uid", "location", "base_suffix", "associated_suffix"]
+CLASHING = ["kind", "uid", *OF_CLASH_KEY, "date"]
+DATED = ["uid", "date", "mark", "runs"]
+
+
+def clash_table(extract: Extract) -> List[str]:
+    """A row for each key that has a clash, with its first date."""
+    rows = []
+    for key, days in clash_dates(extract).items():
+        if len(key) == 1:
+            row = ["BS", *key, *nothing(OF_CLASH_KEY)]
+        else:
+            row = ["AA", "", *key[:2], *(text.rstrip(" ") for text in key[2:])]
+        rows.append([*row, days[0].isoformat()])
+    return lines_of(CLASHING, rows)
+
+
+def calendar_table(extract: Extract, uid: str) -> List[str]:
+    """A row for each date of the window, with what stands there, and whether the train runs."""
+    entries, window = [entry for entry in extract.schedules if entry.key == (uid,)], window_of(
+        extract
+    )
+    rows = []
+    for day in dates_of(window):
+        mark = sign_on(entries, day, window)
+        runs = "" if mark == CLASH else str(int(mark not in (NO_RECORD, "C")))
+        rows.append([uid, day.isoformat(), mark, runs])
+    return lines_of(DATED, rows)
