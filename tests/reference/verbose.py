@@ -6,7 +6,7 @@ from datetime import date
 from typing import Dict, List, Match, NamedTuple, Optional, Set, TYPE_CHECKING, Tuple, Union
 
 from . import layouts, values
-from .dates import from_yymmdd, yymmdd
+from .dates import from_word, yymmdd
 from .explanation import clashing
 from .extracts import COMMENT, NOTES, Extract, Record, contents_of
 from .faults import Fault, Reader, Refusal
@@ -329,7 +329,7 @@ def of_holidays(one: Input, line: bytes) -> List[str]:
         words.pop()
     for number, word in enumerate(words):
         text = word[0].decode("latin-1")
-        if text not in values.HOLIDAY_CODES if number == 0 else from_yymmdd(text) is None:
+        if text not in values.HOLIDAY_CODES if number == 0 else from_word(text) is None:
             said = columns(
                 word.start() + 1, word.end(), WANTED["bad date"] if number else NO_HOLIDAY_CODE
             )

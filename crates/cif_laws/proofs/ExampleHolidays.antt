@@ -1,6 +1,6 @@
 -- The holidays of the example's text: Tuesday 5 January 1960 alone, of code X.
-use Rattle.std.proofs.Common.{Contains, List, Option, Some, [], ap, arith, codes, drop, false, inr, refl, slice_get, subst, suc, sym, true}
-use Rattle.std.proofs.Common.{zero, ℕ, ⊎_elim, ◌<◌, ◌↔◌, ◌∙◌, ◌∷◌, ◌≡◌, ◌≤◌}
+use Rattle.std.proofs.Common.{Contains, List, Option, Some, [], ap, arith, codes, drop, false, inl, inr, refl, slice_get, subst, suc, sym}
+use Rattle.std.proofs.Common.{true, zero, ℕ, ⊎_elim, ◌<◌, ◌↔◌, ◌∙◌, ◌∷◌, ◌≡◌, ◌≤◌}
 use Rattle.std.specs.{Global.Global, Global.Vec, List.Sorted.IsNonDecreasing}
 use Rattle.std.proofs.lemmas.List.Elements.{All-cons, All-nil}
 use Rattle.cif_calendar.proofs.{Elements.Contains-cases, Elements.Contains-first, RisingLists.Contains-none}
