@@ -2,7 +2,7 @@
 from __future__ import annotations
 
 from collections import deque
-from collections.abc import Callable, Iterable, Iterator
+from collections.abc import Callable, Generator, Iterable, Iterator
 from contextlib import contextmanager
 from multiprocessing import get_context
 from multiprocessing.connection import Connection
@@ -84,7 +84,7 @@ def started(work: Callable[[Task], Result], count: int) -> Iterator[list[Connect
 
 def in_processes(
     work: Callable[[Task], Result], tasks: Iterable[Task], count: int
-) -> Iterator[Result]:
+) -> Generator[Result, None, None]:
     """The results of tasks in their order, done by so many processes. Each has one task at a time.
     What the work changes is changed in its process only."""
     with started(work, count) as processes:

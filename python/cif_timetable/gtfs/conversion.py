@@ -3,7 +3,7 @@ from __future__ import annotations
 
 import io
 from collections.abc import Callable, Collection, Iterable, Iterator, Mapping, Sequence
-from contextlib import contextmanager
+from contextlib import closing, contextmanager
 from dataclasses import dataclass
 from functools import lru_cache
 from itertools import chain, islice
@@ -274,16 +274,16 @@ class Conversion:
             with extract.table("public") as table:
                 return self.read_part(schedules.lines(), table, stops, progress)
         variants: dict[str, list[Variant]] = {}
-        # no thread is there yet when the processes start
-        written = in_processes(
-            lambda part: self.write_part(part, stops), self.parts(extract, progress), processes
-        )
-        first = next(written, None)
-        with in_thread(self.write_rows) as hand_on:
-            for part in chain([first] if first else [], written):
-                self.take(part)
-                variants.update(part.variants)
-                hand_on(part)
+        parts = self.parts(extract, progress)
+        written = in_processes(lambda part: self.write_part(part, stops), parts, processes)
+        with closing(written):
+            # no thread is there yet when the processes start
+            first = next(written, None)
+            with in_thread(self.write_rows) as hand_on:
+                for part in chain([first] if first else [], written):
+                    self.take(part)
+                    variants.update(part.variants)
+                    hand_on(part)
         return variants
 
     def parts(self, extract: Extract, progress: Progress) -> Iterator[Part]:
