@@ -393,11 +393,10 @@ def of_refused(job: Job, inputs: List[Input], fault: Fault) -> List[str]:
 def of_word(fault: Fault) -> List[str]:
     """What more is said of a word that names no date, or no UID."""
     assert fault.word is not None
-    if fault.name == "bad UID":
-        five = len(fault.word.encode(errors="surrogateescape")) == 5
-        return ["a space before or behind the other five belongs to it, in quotes"] * five
-    iso = re.fullmatch("[0-9]{2}([0-9]{2})-([0-9]{2})-([0-9]{2})", fault.word)
-    return [f"dates are YYMMDD: {''.join(iso.groups())}"] if iso else []
+    five = len(fault.word.encode(errors="surrogateescape")) == 5
+    return ["a space before or behind the other five belongs to it, in quotes"] * (
+        five and fault.name == "bad UID"
+    )
 
 
 def of_fault(job: Job, inputs: List[Input], fault: Fault) -> List[str]:
