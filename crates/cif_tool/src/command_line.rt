@@ -91,7 +91,7 @@ impl Argument {
             InSequence => ("in-sequence", Syntax::Flag, help::IN_SEQUENCE),
             Form => ("form", Syntax::Form, help::FORM),
             Format => ("format", Syntax::Format, help::FORMAT),
-            TableFormat => ("format", Syntax::TableFormat, help::FORMAT),
+            TableFormat => ("format", Syntax::TableFormat, help::TABLE_FORMAT),
             Table => ("TABLE", Syntax::Table, help::TABLES),
         }
     }
@@ -146,9 +146,13 @@ fn arg_of<'a>(alloc: Global, given: (&'a str, Syntax, &'a str), choices: &Choice
         Syntax::Name => option(arg, id, "FILE"),
         Syntax::Date => option(arg, id, "YYMMDD"),
         Syntax::Form => one_of_or(option(arg, id, "FORM"), choices.forms, "2"),
-        Syntax::Format => one_of_or(option(arg, id, "FORMAT"), choices.formats, "text"),
+        // Help would have these, and those below, in a line of more than 80 columns.
+        Syntax::Format => one_of_or(
+            option(arg, id, "FORMAT"),
+            choices.formats,
+            "text",
+        ).hide_possible_values(true),
         Syntax::TableFormat => one_of_or(option(arg, id, "FORMAT"), choices.table_formats, "tsv"),
-        // Help would have them in a line of more than 80 columns.
         Syntax::Table => arg
             .required(true)
             .value_parser(choices.tables)

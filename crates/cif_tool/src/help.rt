@@ -333,4 +333,6 @@ pub(crate) const IN_SEQUENCE: &str = "With --lenient, refuse an update that does
 
 pub(crate) const FORM: &str = "Form of records";
 
-pub(crate) const FORMAT: &str = "Layout";
+pub(crate) const FORMAT: &str = "Layout: text, tsv or json";
+
+pub(crate) const TABLE_FORMAT: &str = "Layout";
