@@ -146,7 +146,7 @@ fn arg_of<'a>(alloc: Global, given: (&'a str, Syntax, &'a str), choices: &Choice
         Syntax::Name => option(arg, id, "FILE"),
         Syntax::Date => option(arg, id, "YYMMDD"),
         Syntax::Form => one_of_or(option(arg, id, "FORM"), choices.forms, "2"),
-        // Help would have these, and those below, in a line of more than 80 columns.
+        // Help would have these, and the names of tables, in a line of more than 80 columns.
         Syntax::Format => one_of_or(
             option(arg, id, "FORMAT"),
             choices.formats,
