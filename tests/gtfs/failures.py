@@ -509,7 +509,7 @@ def check_words(counts: Counts, maker: Maker, special: Path) -> None:
     wanted.unlink()
     check_own_input(counts, maker, special)
     for word in "260230", "":
-        told = ["cif: bad date", f"  '{word}': must be a valid date as six digits, YYMMDD"]
+        told = ["cif: bad date", f"  '{word}': must be a valid date, YYMMDD or YYYY-MM-DD"]
         refused(counts, maker, f"the date {word!r}", 2, told, "--from", word, special)
     told = ["cif: OutsideWindow", f"  {special} has the window 260105 to 260125"]
     refused(counts, maker, "a date outside the window", 3, told, "--to", "260126", special)

@@ -5,8 +5,8 @@ from datetime import date
 from typing import List, Optional, Sequence, Tuple
 
 from . import values
-from .calendars import CLASH, NO_RECORD, sign_on
-from .dates import Window, dates_of, day_of
+from .calendars import CLASH, NO_RECORD, signs
+from .dates import Window, day_of
 from .explanation import explained
 from .extracts import Body, Extract, Running
 from .layouts import (
@@ -450,12 +450,8 @@ def clash_table(extract: Extract) -> List[str]:
 
 def calendar_table(extract: Extract, uid: str) -> List[str]:
     """A row for each date of the window, with what stands there, and whether the train runs."""
-    entries, window = [entry for entry in extract.schedules if entry.key == (uid,)], window_of(
-        extract
-    )
     rows = []
-    for day in dates_of(window):
-        mark = sign_on(entries, day, window)
+    for day, mark in signs(extract, uid):
         runs = "" if mark == CLASH else str(int(mark not in (NO_RECORD, "C")))
         rows.append([uid, day.isoformat(), mark, runs])
     return lines_of(DATED, rows)
