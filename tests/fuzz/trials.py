@@ -202,6 +202,12 @@ def sides_changed(table: bytes) -> List[bytes]:
     return sorted(b"\t".join(row) for row in [heading, *rows])
 
 
+def of_text(job: Job, inputs: Inputs) -> Iterator[Trial]:
+    """What has a table has a text."""
+    text = job._replace(format=None)
+    yield Trial("the same as text", text, inputs, answer(text, inputs))
+
+
 def of_json(job: Job, inputs: Inputs) -> Iterator[Trial]:
     """What has rows in JSON has a table."""
     table = job._replace(format="tsv")
@@ -209,19 +215,13 @@ def of_json(job: Job, inputs: Inputs) -> Iterator[Trial]:
 
 
 def of_diff(job: Job, inputs: Inputs, want: Answer) -> Iterator[Trial]:
-    if job.format == "json":
-        return of_json(job, inputs)
     return (of_difference_table if job.format == "tsv" else of_differences)(job, inputs, want)
 
 
 def of_explanation(job: Job, inputs: Inputs, want: Answer) -> Iterator[Trial]:
     """What wins on a date is what day says, where there is no clash, and the only record of a canonical extract."""
-    if job.format == "json":
-        yield from of_json(job, inputs)
-        return
     if job.format == "tsv":
-        text = job._replace(format=None)
-        yield Trial("the same as text", text, inputs, answer(text, inputs))
+        yield from of_text(job, inputs)
         return
     day = Job("day", day=job.day)
     listed = answer(day, inputs)
@@ -252,6 +252,9 @@ def uids_of(line: bytes) -> Tuple[bytes, ...]:
 
 def of_clashes(job: Job, inputs: Inputs, want: Answer) -> Iterator[Trial]:
     """The first clash is the one for which check refuses the extract; and each is explained."""
+    if job.format == "tsv":
+        yield from of_text(job, inputs)
+        return
     checked = answer(job._replace(command="check"), inputs)
     lines = want.stdout.splitlines()
     if (
@@ -294,6 +297,9 @@ def of_table(job: Job, inputs: Inputs, want: Answer) -> Iterator[Trial]:
 
 def of_calendar(job: Job, inputs: Inputs, want: Answer) -> Iterator[Trial]:
     """Where there is no clash, the canonical extract has a P exactly where something runs."""
+    if job.format == "tsv":
+        yield from of_text(job, inputs)
+        return
     output = answer(Job("normalise", first=job.first, last=job.last), inputs)
     if output.status == 0:
         runs = want._replace(stdout=want.stdout.translate(bytes.maketrans(b"NOC", b"PP.")))
@@ -397,6 +403,8 @@ def further_trials(rng: Random, case: Case, want: Answer, options: bool) -> Iter
         yield from of_canonical(job, inputs, want.stdout, options)
         if case.timetable:
             yield from of_second_extracts(rng, job, inputs, want.stdout, case.timetable)
+    elif job.format == "json":
+        yield from of_json(job, inputs)
     else:
         yield from FURTHER[job.command](job, inputs, want)
 
