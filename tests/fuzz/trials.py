@@ -62,7 +62,10 @@ def of_canonical(job: Job, inputs: Inputs, output: bytes, options: bool) -> Iter
         undated = plain_job._replace(first=None, last=None)
         yield Trial("the output again, without dates", undated, [output], Answer(output, b"", 0))
     yield Trial(
-        "the input's counts", plain_job._replace(command="check"), inputs, counts_of(output)
+        "the input's counts",
+        plain_job._replace(command="check", format=None),
+        inputs,
+        counts_of(output),
     )
     compared = Job("compare", BOTH, first=job.first, last=job.last)
     yield Trial("the input and its output", compared, [*inputs, output], SAME)
@@ -255,7 +258,7 @@ def of_clashes(job: Job, inputs: Inputs, want: Answer) -> Iterator[Trial]:
     if job.format == "tsv":
         yield from of_text(job, inputs)
         return
-    checked = answer(job._replace(command="check"), inputs)
+    checked = answer(job._replace(command="check", format=None), inputs)
     lines = want.stdout.splitlines()
     if (
         lines
@@ -264,7 +267,7 @@ def of_clashes(job: Job, inputs: Inputs, want: Answer) -> Iterator[Trial]:
         and checked.status
     ):
         raise Inconsistent("the first clash isn't the one that check names")
-    yield Trial("the check of it", job._replace(command="check"), inputs, checked)
+    yield Trial("the check of it", job._replace(command="check", format=None), inputs, checked)
     for line in lines[:2]:
         uid, day = line.split(b"[", 1)[1][:6].decode(), line[-6:].decode()
         explain = Job("explain", job.files, day=day, uid=uid)

@@ -15,6 +15,7 @@ PLACE_LINE = re.compile(r"^  [<[](\w+)[]>](?:\.\.\.)? +(.*)$")
 LISTED = re.compile(r"^(\w+(?:, \w+)+) or (\w+)$")
 CONTINUED = re.compile(r"^ {10}")
 POSSIBLE = re.compile(r"\[possible values: ([^]]*)\]")
+NAMED = re.compile(r"  \w+: (\w+(?:, \w+)*) or (\w+)(?: \[|$)", re.MULTILINE)
 HEADING = re.compile(r"^([A-Z]\w*):$")
 
 
@@ -62,12 +63,12 @@ def options_of(lines: List[str]) -> List[Option]:
         match = OPTION_LINE.match(item.split("\n")[0])
         if not match:
             raise NotUnderstood(f"the help has the option: {item}")
-        possible = POSSIBLE.search(item)
-        values = (
-            possible.group(1).split(", ")
-            if possible
-            else re.findall(r"^ +- ([^\s:]+)", item, re.MULTILINE)
-        )
+        possible, named = POSSIBLE.search(item), NAMED.search(item)
+        values = re.findall(r"^ +- ([^\s:]+)", item, re.MULTILINE)
+        if possible:
+            values = possible[1].split(", ")
+        elif named:
+            values = [*named[1].split(", "), named[2]]
         found.append(Option(match["names"].split(", "), match["value"] or "", values))
     return found
 
