@@ -16,5 +16,4 @@ module _ (format : Format) where
   pub schedule-some : (r : Permanent BodyLines) → 0 < length (fields_text format (schedule_row r))
   schedule-some r =
       some-field format (named (codes "first_date") (Date, yymmdd_of r.first))
-      (named (codes "last_date") (Date, yymmdd_of r.last) ∷ named (codes "days_run") (text (days_columns r.days)) ∷ journey_fields r.body)
-          refl
+      (named (codes "last_date") (Date, yymmdd_of r.last) ∷ named (codes "days_run") (text (days_columns r.days)) ∷ journey_fields r.body) refl

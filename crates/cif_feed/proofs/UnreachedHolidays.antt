@@ -1,6 +1,5 @@
 -- Which holidays don't reach is computed by `unreached`.
-use Rattle.cif_feed.proofs.Names.{Contains, G, E, HolidayCode, Holidays, IsNonDecreasing, List, None, Option, PublishedParts}
-use Rattle.cif_feed.proofs.Names.{PublishedSchedule}
+use Rattle.cif_feed.proofs.Names.{Contains, G, E, HolidayCode, Holidays, IsNonDecreasing, List, None, Option, PublishedParts, PublishedSchedule}
 use Rattle.cif_feed.proofs.Names.{Some, X, [], ap, arith, cond, false, get_or, inl, inr, length, refl, same_Some, subst}
 use Rattle.cif_feed.proofs.Names.{sym, true, ℕ, ⊎_elim, ◌+◌, ◌<◌, ◌∙◌, ◌∷◌, ◌≡◌, ◌≤◌, ◌⊎◌}
 use Rattle.cif_feed.specs.Unreached.{DoesNotReach, far_dates, is_code, is_far, is_of_code, unreached}
@@ -79,8 +78,7 @@ module _ (days : List ℕ) (rising : IsNonDecreasing days) (n : ℕ) (long : len
   last-in : Contains days (get_or days n 0)
   last-in = Contains-get_or days n 0 (omega (arith, long))
 
-found : (code : HolidayCode) (from upto : ℕ) (days : List ℕ) (u : Unreached) → IsNonDecreasing days → far_dates code from upto days ≡ Some u
-    →
+found : (code : HolidayCode) (from upto : ℕ) (days : List ℕ) (u : Unreached) → IsNonDecreasing days → far_dates code from upto days ≡ Some u →
     AreFar code from upto days u
 found code from upto [] u rising is = cc
 found code from upto (day ∷ rest) u rising is =
@@ -117,11 +115,9 @@ only : (code : HolidayCode) (from upto : ℕ) (days : List ℕ) (u : Unreached) 
 only code from upto [] u rising are = let (k, below, at) = are.is_first in let b : k < 0 = below in absurd (omega arith)
 only code from upto (day ∷ rest) u rising are =
     let first : day ≡ u.first =
-    omega (arith, least (day ∷ rest) rising (length rest) (omega arith) u.first are.is_first, are.none_before day
-        (first-in (day ∷ rest) rising (length rest) (omega arith))) in
+    omega (arith, least (day ∷ rest) rising (length rest) (omega arith) u.first are.is_first, are.none_before day (first-in (day ∷ rest) rising (length rest) (omega arith))) in
     let last : get_or (day ∷ rest) (length rest) 0 ≡ u.last =
-    omega (arith, greatest (day ∷ rest) rising (length rest) (omega arith) u.last are.is_last, are.none_after _
-        (last-in (day ∷ rest) rising (length rest) (omega arith))) in
+    omega (arith, greatest (day ∷ rest) rising (length rest) (omega arith) u.last are.is_last, are.none_after _ (last-in (day ∷ rest) rising (length rest) (omega arith))) in
     let far : is_far day (get_or (day ∷ rest) (length rest) 0) from upto ≡ true =
     subst (λ d. is_far d (get_or (day ∷ rest) (length rest) 0) from upto ≡ true) (sym first)
     (subst (λ d. is_far u.first d from upto ≡ true) (sym last) (is-far u.first u.last from upto are.far)) in
@@ -141,13 +137,10 @@ module _ (h : Holidays) (p : PublishedParts) where
   rising-days : (code : HolidayCode) → IsNonDecreasing (days_of code)
   rising-days code = (dates_of h code).rising
 
-  used : (code : HolidayCode) → list_any (is_of_code code) p.schedules ≡ true → Any (λ (s : PublishedSchedule). s.code ≡ Some code)
-      p.schedules
-  used code is = let (k, s, below, at, has) = Any-from_list_any (is_of_code code) p.schedules is in
-      (k, s, below, at, code-is code s.code has)
+  used : (code : HolidayCode) → list_any (is_of_code code) p.schedules ≡ true → Any (λ (s : PublishedSchedule). s.code ≡ Some code) p.schedules
+  used code is = let (k, s, below, at, has) = Any-from_list_any (is_of_code code) p.schedules is in (k, s, below, at, code-is code s.code has)
 
-  is-used : (code : HolidayCode) → Any (λ (s : PublishedSchedule). s.code ≡ Some code) p.schedules → list_any (is_of_code code) p.schedules
-      ≡ true
+  is-used : (code : HolidayCode) → Any (λ (s : PublishedSchedule). s.code ≡ Some code) p.schedules → list_any (is_of_code code) p.schedules ≡ true
   is-used code (k, s, below, at, has) = list_any-from_Any (is_of_code code) p.schedules (k, s, below, at, is-code code s.code has)
 
   pub unreached-found : (code : HolidayCode) (u : Unreached) → unreached h p code ≡ Some u → (u.code ≡ code) × DoesNotReach h p u

@@ -11,8 +11,7 @@ use Rattle.cif_feed.specs.declared.{prepare.KeptPrepare.KeptPrepare, unreached.U
 use Rattle.cif_feed.specs.HolidayText.{IsFirstBadLine, IsHolidayFault, IsOfHolidays, SpellHolidays}
 use Rattle.cif_feed.specs.PublishedParts.{PublishedParts, published_parts, reading_published}
 use Rattle.cif_feed.specs.WrittenPrepared.{FeedWrites, IsDeviceOrMemory, IsPreparedText, codes_named, preparing}
-use Rattle.cif_feed.specs.declared.{changes.RefusedLine.RefusedLine, changes.Waived.Waived, dropped.Dropped.Dropped}
-use Rattle.cif_feed.specs.declared.{feed_fault.FeedFault.FeedFault}
+use Rattle.cif_feed.specs.declared.{changes.RefusedLine.RefusedLine, changes.Waived.Waived, dropped.Dropped.Dropped, feed_fault.FeedFault.FeedFault}
 use Rattle.cif_feed.specs.declared.{feed_fault.FeedFault.TheVariants.BadHoliday, feed_fault.FeedFault.TheVariants.Extract}
 use Rattle.cif_feed.specs.declared.{feed_line.Feed.TheVariants.Full, holiday_text.HolidayFault.HolidayFault}
 use Rattle.cif_feed.specs.declared.{holidays.HolidayCode.HolidayCode, holidays.Holidays.Holidays, mark.UpdateCounts.UpdateCounts}

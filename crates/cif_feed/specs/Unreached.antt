@@ -1,16 +1,13 @@
 -- Holidays that don't reach the window of a published extract, as those of another year.
-use Rattle.std.specs.Prelude.{Bool, List, None, Option, Some, [], codes, false, if◌then◌else◌, length, nat_lt, slice_index_or, ℕ, ◌&&◌}
-use Rattle.std.specs.Prelude.{◌++◌}
+use Rattle.std.specs.Prelude.{Bool, List, None, Option, Some, [], codes, false, if◌then◌else◌, length, nat_lt, slice_index_or, ℕ, ◌&&◌, ◌++◌}
 use Rattle.std.specs.Prelude.{◌+◌, ◌-◌, ◌<◌, ◌==◌, ◌||◌, ◌∷◌, ◌≡◌, ◌≤◌, ◌⊎◌}
 use Rattle.std.specs.List.{Any, list_any}
 use Rattle.cif_columns.specs.DayDigits.{yymmdd_of}
 use Rattle.cif_feed.specs.{HolidayCode.letter, Holidays.IsHoliday, Holidays.dates_of, PublishedParts.PublishedParts}
 use Rattle.cif_feed.specs.PublishedParts.{published_parts}
-use Rattle.cif_feed.specs.declared.{holidays.HolidayCode.HolidayCode, holidays.HolidayCode.TheVariants.E}
-use Rattle.cif_feed.specs.declared.{holidays.HolidayCode.TheVariants.G}
+use Rattle.cif_feed.specs.declared.{holidays.HolidayCode.HolidayCode, holidays.HolidayCode.TheVariants.E, holidays.HolidayCode.TheVariants.G}
 use Rattle.cif_feed.specs.declared.{holidays.HolidayCode.TheVariants.X, holidays.Holidays.Holidays, prepare.KeptPrepare.KeptPrepare}
-use Rattle.cif_feed.specs.declared.{published_extract.PublishedExtract.PublishedExtract}
-use Rattle.cif_feed.specs.declared.{published_extract.PublishedSchedule.PublishedSchedule}
+use Rattle.cif_feed.specs.declared.{published_extract.PublishedExtract.PublishedExtract, published_extract.PublishedSchedule.PublishedSchedule}
 use Rattle.cif_feed.specs.declared.unreached.Unreached.{Unreached}
 
 -- The holidays of a code that some schedule has don't reach the window: the last of them is more than 250 days before its last date, or the

@@ -4,8 +4,7 @@ use Rattle.cif_columns.specs.Contents.{contents_of}
 use Rattle.cif_feed.specs.{FeedRefusal.IsFirstOfFeed, HolidayCode.all_codes}
 use Rattle.cif_feed.specs.PublishedParts.{BytesSpellPublished, PublishedParts, published_text}
 use Rattle.cif_feed.specs.Updated.{IsLineRefused, IsUpdatedBy, refused_fault}
-use Rattle.cif_feed.specs.declared.{changes.RefusedLine.RefusedLine, changes.Waived.Waived, feed_fault.FeedFault.FeedFault}
-use Rattle.cif_feed.specs.declared.{feed_line.Feed.TheVariants.Update}
+use Rattle.cif_feed.specs.declared.{changes.RefusedLine.RefusedLine, changes.Waived.Waived, feed_fault.FeedFault.FeedFault, feed_line.Feed.TheVariants.Update}
 
 -- The updates that these bytes spell are done to a published extract, one after another. The lines that are waived are those of the one
 -- update after those of the other.

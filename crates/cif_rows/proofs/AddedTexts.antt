@@ -1,10 +1,7 @@
 -- Texts that are added one after another, and a row as they make it.
-use Rattle.cif_rows.proofs.Names.{Adds, Apart, Field, Format, IsAppended, Json, List, Option, Sink, Text, Tsv, [], ap, append-nil}
-use Rattle.cif_rows.proofs.Names.{append_assoc}
-use Rattle.cif_rows.proofs.Names.{arith, cell, closing, codes, drop, field_text, fields_text, flat_map, flat_map-append, get_or}
-use Rattle.cif_rows.proofs.Names.{heading_text}
-use Rattle.cif_rows.proofs.Names.{join_with_byte, length, length-append, map, member, names_ended, names_text, opening, padded, refl}
-use Rattle.cif_rows.proofs.Names.{row_text, subst, sym}
+use Rattle.cif_rows.proofs.Names.{Adds, Apart, Field, Format, IsAppended, Json, List, Option, Sink, Text, Tsv, [], ap, append-nil, append_assoc}
+use Rattle.cif_rows.proofs.Names.{arith, cell, closing, codes, drop, field_text, fields_text, flat_map, flat_map-append, get_or, heading_text}
+use Rattle.cif_rows.proofs.Names.{join_with_byte, length, length-append, map, member, names_ended, names_text, opening, padded, refl, row_text, subst, sym}
 use Rattle.cif_rows.proofs.Names.{take, take-append-add, take_all, take_more, without_last, ℕ, ◌++◌, ◌+◌, ◌-◌, ◌<◌, ◌∙◌, ◌∷◌, ◌≡◌, ◌≤◌}
 use Rattle.cif_rows.proofs.Names.{Bor, IsTrue, are_short, leb-true, nat_le, suc, texts, zero}
 use Rattle.std.proofs.lemmas.Bool.{and_parts}
@@ -204,8 +201,7 @@ module _ {W : Type 0} (contents : W → Option (List ℕ)) (errors : W → Optio
   pub fields-added : (fs gs : List Field) (s t u : Sink W) (w x y : List ℕ) → Adds contents errors (fields_text format fs) s t w x →
       Adds contents errors (fields_text format gs) t u x y → Adds contents errors (fields_text format (fs ++ gs)) s u w y
   fields-added fs gs s t u w x y p q =
-      added-is contents errors _ _ s u w y (sym (flat_map-append (field_text format) fs gs))
-          (added-both contents errors _ _ s t u w x y p q)
+      added-is contents errors _ _ s u w y (sym (flat_map-append (field_text format) fs gs)) (added-both contents errors _ _ s t u w x y p q)
 
   -- a row, from its beginning to its end
   pub row-added : (row : List Field) (s t u v : Sink W) (w x y z : List ℕ) → 0 < length (fields_text format row) →

@@ -1,6 +1,5 @@
 -- Columns that are copied into a buffer, after what it has.
-use Rattle.cif_rows.proofs.Names.{List, ap, arith, length, length-take-le, refl, sym, take, take-append-add, take-take, ℕ, ◌++◌, ◌+◌, ◌∙◌}
-use Rattle.cif_rows.proofs.Names.{◌≡◌}
+use Rattle.cif_rows.proofs.Names.{List, ap, arith, length, length-take-le, refl, sym, take, take-append-add, take-take, ℕ, ◌++◌, ◌+◌, ◌∙◌, ◌≡◌}
 use Rattle.cif_rows.proofs.Names.{◌≤◌}
 use borrow.Rule.Slice.PartMut.{put_mid}
 use Rattle.std.proofs.lemmas.Slice.{take-put_mid}

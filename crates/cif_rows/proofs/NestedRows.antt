@@ -1,7 +1,6 @@
 -- A row of JSON with its calls, as they are added.
 use Rattle.cif_rows.proofs.Names.{Adds, Field, Json, List, Option, Sink, [], ap, append_assoc, arith, closing, codes, drop, fields_text}
-use Rattle.cif_rows.proofs.Names.{flat_map, flat_map-append, join_with_byte, length, length-append, map, member, opening, sym, take}
-use Rattle.cif_rows.proofs.Names.{without_last}
+use Rattle.cif_rows.proofs.Names.{flat_map, flat_map-append, join_with_byte, length, length-append, map, member, opening, sym, take, without_last}
 use Rattle.cif_rows.proofs.Names.{ℕ, ◌++◌, ◌<◌, ◌∙◌, ◌∷◌, ◌≡◌, append-nil}
 use Rattle.cif_rows.proofs.AddedTexts.{added-both, added-is, commas, joined, replaced}
 use Rattle.cif_rows.specs.Row.{calls_member, object_text, row_with_calls}
@@ -44,8 +43,7 @@ module _ {W : Type 0} (contents : W → Option (List ℕ)) (errors : W → Optio
       let long = length-append (codes "\"calls\":[") text in
       let whole = codes "\"calls\":[" ++ text in
       let is : without_last whole ≡ codes "\"calls\":[" ++ join_with_byte 44 objects =
-      ap (λ (l : List ℕ). without_last (codes "\"calls\":[" ++ l)) (sym
-          (flat_map-map (λ (o : List ℕ). o ++ codes ",") object_text (call ∷ calls)))
+      ap (λ (l : List ℕ). without_last (codes "\"calls\":[" ++ l)) (sym (flat_map-map (λ (o : List ℕ). o ++ codes ",") object_text (call ∷ calls)))
       ∙ commas (codes "\"calls\":[") objects (omega arith) in
       added-is contents errors _ _ s v w z
       (ap (λ (l : List ℕ). (l ++ codes "]") ++ codes ",") is

@@ -1,7 +1,6 @@
 -- Texts of JSON.
 use Rattle.cif_rows.proofs.Names.{All, All-append, All-cons, All-head, All-nil, All-tail, Bool, IsPlain, IsTrue, List, [], ap, append_assoc}
-use Rattle.cif_rows.proofs.Names.{arith, escape, false, false≢true, flat_map, get_or, is_escaped, length, not, refl, subst, sym, take}
-use Rattle.cif_rows.proofs.Names.{take_more}
+use Rattle.cif_rows.proofs.Names.{arith, escape, false, false≢true, flat_map, get_or, is_escaped, length, not, refl, subst, sym, take, take_more}
 use Rattle.cif_rows.proofs.Names.{text_value, true, ℕ, ◌&&◌, ◌++◌, ◌+◌, ◌<◌, ◌∙◌, ◌∷◌, ◌≡◌}
 
 -- bytes that have no backslash before them

@@ -1,9 +1,7 @@
 -- The text of rows tells their cells: as a line with tabs, and as an object of JSON.
 use Rattle.cif_rows.proofs.Names.{All, All-cons, All-head, All-nil, All-tail, ArePrintable, Bool, Format, IsPrintable, Json, List, Number}
-use Rattle.cif_rows.proofs.Names.{Text, Tsv, [], ap, append_assoc, arith, codes, drop, escape, false, false≢true, flat_map, get_or}
-use Rattle.cif_rows.proofs.Names.{if◌then◌else◌, is_escaped}
-use Rattle.cif_rows.proofs.Names.{join_with_byte, length, length-append, map, member, padded, refl, row_text, subst, sym, text_value, true}
-use Rattle.cif_rows.proofs.Names.{value_text, without_last, ℕ}
+use Rattle.cif_rows.proofs.Names.{Text, Tsv, [], ap, append_assoc, arith, codes, drop, escape, false, false≢true, flat_map, get_or, if◌then◌else◌, is_escaped}
+use Rattle.cif_rows.proofs.Names.{join_with_byte, length, length-append, map, member, padded, refl, row_text, subst, sym, text_value, true, value_text, without_last, ℕ}
 use Rattle.cif_rows.proofs.Names.{◌++◌, ◌<◌, ◌∙◌, ◌∷◌, ◌≡◌}
 use Rattle.std.{proofs.Common.◌≢◌, proofs.lemmas.List.append_cancel_left}
 use Rattle.cif_rows.specs.Row.{Field, IsDigit, IsSaid, Value, cell_of, named, number_value, trimmed, long_date}
@@ -137,8 +135,7 @@ module _ (end : ℕ) (not : IsDigit end → ⊥) (x y c d s t : List ℕ) (same 
       (sym (append_assoc (flat_map escape c) (34 ∷ []) (end ∷ s)) ∙ both ∙ append_assoc (flat_map escape d) (34 ∷ []) (end ∷ t)) in
       (here.0, ap (drop 1) here.1)
   value-cut (quote p) (digits q some all) =
-      absurd (let digit = first-digit d (end ∷ t) 34 some all (sym (first-of _ _ (texts _ _ p q))) in let from = digit.0 in omega
-          (arith, from))
+      absurd (let digit = first-digit d (end ∷ t) 34 some all (sym (first-of _ _ (texts _ _ p q))) in let from = digit.0 in omega (arith, from))
   value-cut (digits p some all) (none q f) =
       absurd (no-digit 110 (omega arith) (first-digit c (end ∷ s) 110 some all (first-of _ _ (texts _ _ p q))))
   value-cut (digits p some all) (quote q) =
@@ -199,8 +196,7 @@ members-cut (f ∷ h ∷ a) (g ∷ k ∷ b) s t names one other some same =
     let here = member-cut f g 44 (m ++ (125 ∷ s)) (n ++ (125 ∷ t)) no-comma (ap (λ (ns : List (List ℕ)). get_or ns 0 []) names)
     (All-head IsSaidField f (h ∷ a) one) (All-head IsSaidField g (k ∷ b) other)
     (sym (append_assoc (member f) (44 ∷ m) (125 ∷ s)) ∙ same ∙ append_assoc (member g) (44 ∷ n) (125 ∷ t)) in
-    let rest = members-cut (h ∷ a) (k ∷ b) s t (ap (drop 1) names) (All-tail IsSaidField f (h ∷ a) one)
-        (All-tail IsSaidField g (k ∷ b) other) (omega arith)
+    let rest = members-cut (h ∷ a) (k ∷ b) s t (ap (drop 1) names) (All-tail IsSaidField f (h ∷ a) one) (All-tail IsSaidField g (k ∷ b) other) (omega arith)
     here.1 in
     ((λ i. here.0 i ∷ rest.0 i), rest.1)
 
@@ -222,8 +218,7 @@ cells-cut (f ∷ h ∷ a) (g ∷ k ∷ b) s t names one other some same =
     let here = cut IsPrintable 9 (no-control 9 (omega arith)) (cell_in f) (cell_in g) (m ++ (10 ∷ s)) (n ++ (10 ∷ t))
     (said-printable (value_of f) (All-head IsSaidField f (h ∷ a) one)) (said-printable (value_of g) (All-head IsSaidField g (k ∷ b) other))
     (sym (append_assoc (cell_in f) (9 ∷ m) (10 ∷ s)) ∙ same ∙ append_assoc (cell_in g) (9 ∷ n) (10 ∷ t)) in
-    let rest = cells-cut (h ∷ a) (k ∷ b) s t (ap (drop 1) names) (All-tail IsSaidField f (h ∷ a) one) (All-tail IsSaidField g (k ∷ b) other)
-        (omega arith)
+    let rest = cells-cut (h ∷ a) (k ∷ b) s t (ap (drop 1) names) (All-tail IsSaidField f (h ∷ a) one) (All-tail IsSaidField g (k ∷ b) other) (omega arith)
     here.1 in
     ((λ i. here.0 i ∷ rest.0 i), rest.1)
 

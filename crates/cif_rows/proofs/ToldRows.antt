@@ -1,7 +1,6 @@
 -- Texts of rows with given names tell the rows' cells, and are made of them.
 use Rattle.cif_rows.proofs.Names.{All-head, All-tail, Bool, Format, Json, List, Text, Tsv, [], ap, arith, codes, drop, flat_map, get_or}
-use Rattle.cif_rows.proofs.Names.{Field, false, join_with_byte, length, length-append, map, member, refl, row_text, sym, text_value, true}
-use Rattle.cif_rows.proofs.Names.{value_text, ℕ}
+use Rattle.cif_rows.proofs.Names.{Field, false, join_with_byte, length, length-append, map, member, refl, row_text, sym, text_value, true, value_text, ℕ}
 use Rattle.cif_rows.proofs.Names.{◌++◌, ◌<◌, ◌∙◌, ◌∷◌, ◌≡◌}
 use Rattle.std.proofs.Common.{◌≢◌}
 use Rattle.cif_rows.proofs.RowTexts.{cell_in, first-row, row-filled}
@@ -92,6 +91,5 @@ module _ (format : Format) (not : format ≢ Text) (names : List (List ℕ)) whe
   same-texts (a ∷ one) (b ∷ other) p q cells kinds =
       let named = (All-head (IsRowOf names) a one p).0 ∙ sym (All-head (IsRowOf names) b other q).0 in
       let here = same-row format not a b named (ap (λ ks. get_or ks 0 []) kinds) (ap (λ cs. get_or cs 0 []) cells) in
-      let rest = same-texts one other (All-tail (IsRowOf names) a one p) (All-tail (IsRowOf names) b other q) (ap (drop 1) cells)
-          (ap (drop 1) kinds) in
+      let rest = same-texts one other (All-tail (IsRowOf names) a one p) (All-tail (IsRowOf names) b other q) (ap (drop 1) cells) (ap (drop 1) kinds) in
       λ i. here i ++ rest i

@@ -1,6 +1,5 @@
 -- A row: fields with names, and its text in each format.
-use Rattle.std.specs.Prelude.{All, Bool, List, [], codes, decimal, if◌then◌else◌, length, map, nat_eq, nat_lt, slice_index_or, take, ℕ}
-use Rattle.std.specs.Prelude.{◌++◌, ◌-◌, ◌||◌, ◌∷◌, ◌≤◌}
+use Rattle.std.specs.Prelude.{All, Bool, List, [], codes, decimal, if◌then◌else◌, length, map, nat_eq, nat_lt, slice_index_or, take, ℕ, ◌++◌, ◌-◌, ◌||◌, ◌∷◌, ◌≤◌}
 use Rattle.std.specs.List.{flat_map, join_with_byte}
 use Rattle.cif_columns.specs.{Line.ArePrintable, Lines.used}
 use Rattle.cif_rows.specs.declared.{format.Format.Format, shape.Padding.Padding, shape.Shape.Shape}

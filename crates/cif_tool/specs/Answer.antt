@@ -20,8 +20,7 @@ use Rattle.cif_views.specs.{Explanation.IsExplanationFault, Listing.IsDayListing
 use Rattle.cif_views.specs.{WeekCalendar.IsWeekCalendar}
 use Rattle.cif_canon.specs.Differences.{AreDifferences, AreNone, DifferencesParts, differences_text}
 use Rattle.cif_tool.{specs.Status.outcome_of, specs.declared.job.Job.TheVariants.Train}
-pub use Rattle.cif_tool.specs.declared.{job.CalendarJob.CalendarJob, job.CanonicalJob.CanonicalJob, job.ClashesJob.ClashesJob}
-pub use Rattle.cif_tool.specs.declared.{job.CompareJob.CompareJob}
+pub use Rattle.cif_tool.specs.declared.{job.CalendarJob.CalendarJob, job.CanonicalJob.CanonicalJob, job.ClashesJob.ClashesJob, job.CompareJob.CompareJob}
 pub use Rattle.cif_tool.specs.declared.{job.DayJob.DayJob, job.ExplainJob.ExplainJob, job.TrainJob.TrainJob}
 use Rattle.cif_tool.specs.declared.{answers.CanonicalOutput.CanonicalOutput, answers.PairOutput.PairOutput, job.Job.Job}
 use Rattle.cif_tool.specs.declared.answers.CanonicalOutput.TheVariants as output
@@ -233,8 +232,7 @@ IsJobAnswer remaining (Day job) source right = OfInput remaining (IsDayAnswer jo
 IsJobAnswer remaining (Train job) source right = OfInput remaining (IsTrainAnswer job) source
 IsJobAnswer remaining (Explain job) source right = OfInput remaining (IsExplainAnswer job) source
 IsJobAnswer remaining (Clashes job) source right = OfInput remaining (IsClashesAnswer job) source
-IsJobAnswer remaining (Table job) source right = OfInput remaining (IsCanonicalAnswer (output.Table job.table job.format) job.canonical)
-    source
+IsJobAnswer remaining (Table job) source right = OfInput remaining (IsCanonicalAnswer (output.Table job.table job.format) job.canonical) source
 IsJobAnswer remaining (Calendar job) source right = OfInput remaining (IsCalendarAnswer job) source
 
 -- why a command with one input has none

@@ -4,8 +4,7 @@ use Rattle.std.specs.Prelude.{⊤, ◌<◌, ◌∷◌, ◌≡◌, ◌≢◌, ◌
 use Rattle.std.specs.Str.{bytes_eq}
 use Rattle.clap.specs.{Words.IsAmong, Words.Row, Words.Text, Words.first_of, declared.error.ErrorKind.TheVariants.DisplayVersion}
 use Rattle.clap.specs.declared.{error.ErrorKind.ErrorKind, error.ErrorKind.TheVariants.DisplayHelp}
-use Rattle.cif_columns.{specs.DateWord.IsDateWord, specs.Uid.IsUid, specs.declared.sink.Sink.Sink}
-use Rattle.cif_columns.{specs.declared.sink.WriteFault.WriteFault}
+use Rattle.cif_columns.{specs.DateWord.IsDateWord, specs.Uid.IsUid, specs.declared.sink.Sink.Sink, specs.declared.sink.WriteFault.WriteFault}
 use Rattle.cif_columns.specs.Sink.{HasFailed, HasWritten, Writes}
 use Rattle.cif_extract.specs.declared.{fault.Fault.Fault, fault.Fault.TheVariants.Write}
 use Rattle.cif_feed.specs.FeedAnswer.{IsHandedOn}

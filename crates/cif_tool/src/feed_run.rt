@@ -2,8 +2,7 @@
 ghost use Rattle.std.specs.Prelude.{◌≡◌, IfErr};
 ghost use Rattle.cif_canon.specs.Appended.{IsAppended};
 ghost use Rattle.cif_feed.specs.FeedAnswer.{AreUpdatesRead, FeedAnswers, IsHandedOn, IsPrepareAnswer, IsPrepareFault, IsPreparedInTurn};
-ghost use Rattle.cif_feed.specs.FeedAnswer.{IsReported, IsUpdateAnswer, IsUpdateFault, OfHolidays, OfUpdates, prepare_reported};
-ghost use Rattle.cif_feed.specs.FeedAnswer.{reported_of};
+ghost use Rattle.cif_feed.specs.FeedAnswer.{IsReported, IsUpdateAnswer, IsUpdateFault, OfHolidays, OfUpdates, prepare_reported, reported_of};
 ghost use Rattle.cif_tool.specs.Reported.{dropped_line, feed_status_of, prepared_line, refused_line, unreached_line, waived_line};
 ghost use Rattle.cif_tool.specs.Reported.{reported_by_prepare, reported_by_update, reported_status};
 

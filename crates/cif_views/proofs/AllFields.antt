@@ -1,8 +1,7 @@
 -- The rows of associations, and of what is explained, have all fields; and those of records have all columns.
 use Rattle.cif_views.proofs.Names.{List, [], ap, append-nil, append_assoc, columns, drop, drop-drop, refl, sym, take, take-add, ℕ, ◌++◌}
 use Rattle.cif_views.{proofs.Names.◌+◌, proofs.Names.◌∙◌, proofs.Names.◌∷◌, proofs.Names.◌≡◌, specs.AllFields.TablesHaveColumns}
-use Rattle.cif_views.proofs.Names.{AssocBody, AssocKey, BodyLines, None, Option, Some, Terms, codes, day_names, explained_association_row}
-use Rattle.cif_views.proofs.Names.{explained_train_row}
+use Rattle.cif_views.proofs.Names.{AssocBody, AssocKey, BodyLines, None, Option, Some, Terms, codes, day_names, explained_association_row, explained_train_row}
 use Rattle.cif_views.proofs.Names.{false, map, said_of_association, said_of_train, start_fields, train_names}
 use Rattle.cif_canon.specs.Rows.{association_names, no_association}
 use Rattle.cif_rows.specs.Row.{Field}

@@ -1,8 +1,6 @@
 -- The rows of trains and their calls, as they are added.
-use Rattle.cif_views.proofs.Names.{List, Option, [], ap, append-nil, append_assoc, arith, call_names, call_text, codes, drop}
-use Rattle.cif_views.proofs.Names.{fields_of_call, flat_map}
-use Rattle.cif_views.proofs.Names.{flat_map-append, flat_map-map, length, length-append, length-map, listed_fields, map, nested_fields}
-use Rattle.cif_views.proofs.Names.{no_call_text, refl, sym}
+use Rattle.cif_views.proofs.Names.{List, Option, [], ap, append-nil, append_assoc, arith, call_names, call_text, codes, drop, fields_of_call, flat_map}
+use Rattle.cif_views.proofs.Names.{flat_map-append, flat_map-map, length, length-append, length-map, listed_fields, map, nested_fields, no_call_text, refl, sym}
 use Rattle.cif_views.proofs.Names.{take, values_of, with_calls, without_calls, ℕ, ◌++◌, ◌<◌, ◌∙◌, ◌∷◌, ◌≡◌}
 use Rattle.cif_views.proofs.RowNames.{Adds, Field, Format, Json, Text, Tsv, Value, added-both, added-is, closing, field_text, fields-added}
 use Rattle.cif_views.proofs.RowNames.{fields_text, name_text, named, names_text, opening, row-added, row_text, some-field, text}
@@ -107,8 +105,7 @@ module _ {W : Type 0} (contents : W → Option (List ℕ)) (errors : W → Optio
       Adds contents errors (with_calls f row calls) s h w c
   json-with-calls is row calls s t u v e g h w x y z a b c some begin own start all end last =
       let nested : List (List Field) = map nested_fields calls in
-      let whole : flat_map (call_text f row) calls ≡ flat_map nested_text nested = rw is
-          (sym (flat_map-map nested_text nested_fields calls)) in
+      let whole : flat_map (call_text f row) calls ≡ flat_map nested_text nested = rw is (sym (flat_map-map nested_text nested_fields calls)) in
       let before : opening f ≡ opening Json = ap opening is in
       let fields : fields_text f row ≡ fields_text Json row = ap (λ x. fields_text x row) is in
       let same : with_calls Json row calls ≡ with_calls f row calls = rw is refl in

@@ -1,6 +1,5 @@
 -- The fields of the rows of differences, by what they begin with.
-use Rattle.cif_views.proofs.Names.{List, Option, Side, [], codes, decimal, difference_names, differing_row, drop, head_values, length}
-use Rattle.cif_views.proofs.Names.{place_names}
+use Rattle.cif_views.proofs.Names.{List, Option, Side, [], codes, decimal, difference_names, differing_row, drop, head_values, length, place_names}
 use Rattle.cif_views.proofs.Names.{place_values, refl, row_of_counts, single_row, ℕ, ◌++◌, ◌<◌, ◌∷◌, ◌≡◌}
 use Rattle.cif_views.proofs.Names.{change_on}
 use Rattle.cif_views.proofs.RowNames.{Field, Format, Value, all_named, fields_text, named, nothing, some-field, text}
@@ -51,8 +50,7 @@ module _ (side : Option Side) (line : List ℕ) where
   -- each begins with the change
   pub some-head : (format : Format) (kind : RecordKind) (more : List Field) →
       0 < length (fields_text format (head_fields kind side line ++ more))
-  some-head format Tiploc more = some-field format (named (codes "change") (change_on side)) (drop 1 (head_fields Tiploc side line ++ more))
-      refl
+  some-head format Tiploc more = some-field format (named (codes "change") (change_on side)) (drop 1 (head_fields Tiploc side line ++ more)) refl
   some-head format Association more =
       some-field format (named (codes "change") (change_on side)) (drop 1 (head_fields Association side line ++ more)) refl
   some-head format Schedule more =

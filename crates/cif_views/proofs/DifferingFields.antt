@@ -1,16 +1,11 @@
 -- The rows of fields that differ.
-use Rattle.cif_views.proofs.Names.{Bool, Bor, Change, Column, FieldPlace, IsTrue, JourneyKind, List, Other, Stop, TableFields, []}
-use Rattle.cif_views.proofs.Names.{and_parts}
-use Rattle.cif_views.proofs.Names.{ap, append_assoc, ap₂, are_texts, arith, bytes_decides, call_columns, change_columns, column}
-use Rattle.cif_views.proofs.Names.{column_names}
-use Rattle.cif_views.proofs.Names.{columns, columns_of, cond, count_of_calls, differing_row, differing_rows, drop, false, false≢true}
-use Rattle.cif_views.proofs.Names.{field_row}
+use Rattle.cif_views.proofs.Names.{Bool, Bor, Change, Column, FieldPlace, IsTrue, JourneyKind, List, Other, Stop, TableFields, [], and_parts}
+use Rattle.cif_views.proofs.Names.{ap, append_assoc, ap₂, are_texts, arith, bytes_decides, call_columns, change_columns, column, column_names}
+use Rattle.cif_views.proofs.Names.{columns, columns_of, cond, count_of_calls, differing_row, differing_rows, drop, false, false≢true, field_row}
 use Rattle.cif_views.proofs.Names.{field_rows, find, get_or, if◌then◌else◌, in_journey, is_call, is_change, is_identity, is_span}
 use Rattle.cif_views.proofs.Names.{is_text, is_text_place, is_within, journey_kind, kind_of_line, kinds, length, names, nat_eq, nat_le}
-use Rattle.cif_views.proofs.Names.{own_call_fields, own_change_fields, own_fields, pointwise, refl, row_values, rows_of_place}
-use Rattle.cif_views.proofs.Names.{rows_of_places}
-use Rattle.cif_views.proofs.Names.{same_places, slice_index_or, span_in, subst, suc, sym, take, take-take, true, value_in, values_in, zero}
-use Rattle.cif_views.proofs.Names.{ℕ}
+use Rattle.cif_views.proofs.Names.{own_call_fields, own_change_fields, own_fields, pointwise, refl, row_values, rows_of_place, rows_of_places}
+use Rattle.cif_views.proofs.Names.{same_places, slice_index_or, span_in, subst, suc, sym, take, take-take, true, value_in, values_in, zero, ℕ}
 use Rattle.cif_views.proofs.Names.{◌&&◌, ◌++◌, ◌+◌, ◌<◌, ◌∙◌, ◌∷◌, ◌≡◌}
 use Rattle.cif_views.proofs.RowNames.{Value, cell_of, text, trimmed}
 use Rattle.cif_views.proofs.TableRows.{call-fields}
@@ -90,8 +85,7 @@ module _ (it : Column) (is : IsTrue (is_text it)) where
     unfolding field_row
     other-cells answer known is = ap (λ (b : Bool). if b then [] else row ∷ []) (tested answer known false is)
 
-pub text-at : (given : List (Bor (List ℕ) × FieldPlace)) → IsTrue (are_texts (columns_of given)) → (i : ℕ)
-    (none : Bor (List ℕ) × FieldPlace) →
+pub text-at : (given : List (Bor (List ℕ) × FieldPlace)) → IsTrue (are_texts (columns_of given)) → (i : ℕ) (none : Bor (List ℕ) × FieldPlace) →
     i < length given → IsTrue (is_text (column (get_or given i none)))
 text-at [] all i none below = absurd (omega (arith, below))
 text-at (c ∷ given) all zero none below = (and_parts (is_text (column c)) (are_texts (columns_of given)) all).0

@@ -13,8 +13,7 @@ pub explanation : (format : Format) (x : ExtractParts) (u : List ℕ) (d : ℕ) 
     → trains ≡ x.schedules → ArePlacedInOrder (slice_cmp nat_cmp) IsTrain (schedule_entries trains) u d applying
     → AreMarked applying applying shown
     → IsExplanation format x u d (explanation_heading format
-    ++ (flat_map (λ e. row_text format (explained_association_row d e)) marked ++ flat_map (λ e. row_text format (explained_train_row d e))
-        shown))
+    ++ (flat_map (λ e. row_text format (explained_association_row d e)) marked ++ flat_map (λ e. row_text format (explained_train_row d e)) shown))
 explanation format x u d within entries placed marked same are marks trains applying shown alike be signs = record {
   within = within;
   associations = marked;

@@ -80,8 +80,7 @@ pub use Rattle.cif_views.specs.RowsOfDifferences.{AreRowsOfFields, HasRow, HaveR
 pub use Rattle.cif_views.specs.Steps.Columns.{Column, are_within, association_columns, basic_columns, call_columns, change_columns, column}
 pub use Rattle.cif_views.specs.Steps.Columns.{column_names, columns_of, extra_columns, field_in, fields_in, is_span, is_within, over}
 pub use Rattle.cif_views.specs.Steps.Columns.{room_for, room_of, span_in, value_in, values_in}
-pub use Rattle.cif_views.specs.Steps.DifferenceHeads.{IsShortPlace, change_on, head_of, head_values, place_names, place_values}
-pub use Rattle.cif_views.specs.Steps.DifferenceHeads.{start_values}
+pub use Rattle.cif_views.specs.Steps.DifferenceHeads.{IsShortPlace, change_on, head_of, head_values, place_names, place_values, start_values}
 pub use Rattle.cif_views.specs.Steps.DifferenceRows.{are_texts, count_of_calls, field_rows, is_text, is_text_place, own_columns}
 pub use Rattle.cif_views.specs.Steps.DifferenceRows.{row_of_counts, rows_of_journeys, rows_of_place, rows_of_places, rows_text, same_places}
 pub use Rattle.cif_views.specs.Steps.Explanation.{AreMarked, AreMarkedOn, ArePlacedBelow, ArePlacedInOrder, IsFirstOfKey, IsLeast, IsLevel}

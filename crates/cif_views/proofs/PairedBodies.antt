@@ -9,8 +9,7 @@ use Rattle.cif_views.proofs.Names.{differing_rows, drop, each_back, each_front, 
 use Rattle.cif_views.proofs.Names.{extra_records, false, false≢true, further-fit, further-lines, get_or, in_record, is_call}
 use Rattle.cif_views.proofs.Names.{is_extra, journey_differences, journey_kind, journey_records, kind_in, kind_of_line}
 use Rattle.cif_views.proofs.Names.{length, line-plain_line, map, one_text_value, own_columns, parts_in, row_of_counts, rows_of_journeys}
-use Rattle.cif_views.proofs.Names.{plain_line, record_table, refl, replicate, row, row_values, rows_of_place, rows_of_places, same_places}
-use Rattle.cif_views.proofs.Names.{schedule_differences}
+use Rattle.cif_views.proofs.Names.{plain_line, record_table, refl, replicate, row, row_values, rows_of_place, rows_of_places, same_places, schedule_differences}
 use Rattle.cif_views.proofs.Names.{schedule_head, schedule_plain, stands-front, stands-plain_line, subst, sym, take, true, values_in}
 use Rattle.cif_views.proofs.Names.{type_fields, without_extra, ℕ, ◌++◌, ◌+◌, ◌<◌, ◌∙◌, ◌∷◌, ◌≡◌}
 use Rattle.cif_columns.specs.Field.{text}

@@ -39,8 +39,7 @@ module _ (schedule : ℕ) where
     abbrev pub AreLeft : List (List Field) → Journey → ℕ → List (List ℕ) → Type 0
     AreLeft done j call lines = done ++ rows_left j call lines ≡ whole
 
-    pub one-line : (done : List (List Field)) (number : List ℕ) (j next : Journey) (kind : JourneyKind) (call then : ℕ)
-        (lines : List (List ℕ))
+    pub one-line : (done : List (List Field)) (number : List ℕ) (j next : Journey) (kind : JourneyKind) (call then : ℕ) (lines : List (List ℕ))
         (line : List ℕ) (rest : List (List ℕ)) → lines ≡ line ∷ rest → number ≡ decimal schedule → kind ≡ kind_of_line line →
         next ≡ (step_at j line).0 → then ≡ cond (is_call kind) (call + 1) call → AreLeft done j call lines →
         AreLeft (done ++ row_of_step number call line (step_at j line).1) next then rest

@@ -5,8 +5,7 @@ use Rattle.cif_views.proofs.Names.{ap, append_assoc, ap₂, are_within, arith, b
 use Rattle.cif_views.proofs.Names.{drop, drop_at, eqb-true, false, false≢true, flat_map, is_span, is_whole_from, is_within}
 use Rattle.cif_views.proofs.Names.{leb-true, length, length-append, length-columns, length-map, line-plain_line, map, names, nat_eq, nat_le}
 use Rattle.cif_views.proofs.Names.{or_cases, plain_columns, plain_line, pointwise, refl, row_of, row_values, span_in, subst, suc, sym, take}
-use Rattle.cif_views.proofs.Names.{take-append_seam, true, used, value_in, values_in, width_of, yymmdd_from, zero, ℕ, ⊎_elim, ◌&&◌, ◌++◌}
-use Rattle.cif_views.proofs.Names.{◌+◌, ◌-◌}
+use Rattle.cif_views.proofs.Names.{take-append_seam, true, used, value_in, values_in, width_of, yymmdd_from, zero, ℕ, ⊎_elim, ◌&&◌, ◌++◌, ◌+◌, ◌-◌}
 use Rattle.cif_views.proofs.Names.{◌<◌, ◌^◌, ◌||◌, ◌∙◌, ◌∷◌, ◌≡◌, ◌≢◌}
 use Rattle.std.{proofs.lemmas.Str.Parse.digit_from_value, specs.Str.Parse.AllDigits}
 use Rattle.cif_columns.proofs.Parts.{length-plain_columns, whole-first}
@@ -51,8 +50,7 @@ filled format row s =
 module _ (format : Format) (not : format ≢ Text) {Row : Type 0} (fields : TableFields Row) (Is : Row → Type 0) (some : 0 < length fields)
     (are : (r : Row) → Is r → AreValues (row_values fields r))
     (same : (r q : Row) → Is r → Is q → cells_of fields r ≡ cells_of fields q → r ≡ q) where
-  first-row_of : (r q : Row) (s t : List ℕ) → Is r → Is q → row_text format (row_of fields r) ++ s ≡ row_text format (row_of fields q) ++ t
-      →
+  first-row_of : (r q : Row) (s t : List ℕ) → Is r → Is q → row_text format (row_of fields r) ++ s ≡ row_text format (row_of fields q) ++ t →
       (r ≡ q) × (s ≡ t)
   first-row_of r q s t one other is =
       let long = length-map fields (λ f. named f.0 (f.1 r)) in
@@ -60,8 +58,7 @@ module _ (format : Format) (not : format ≢ Text) {Row : Type 0} (fields : Tabl
       (said-row r fields (are r one)) (said-row q fields (are q other)) (omega (arith, long, some)) is in
       (same r q one other (sym (cells-row r fields) ∙ here.0 ∙ cells-row q fields), here.1)
 
-  pub same-row : (r q : Row) → Is r → Is q → flat_map (row_text format) (row_of fields r ∷ []) ≡ flat_map (row_text format)
-      (row_of fields q ∷ []) →
+  pub same-row : (r q : Row) → Is r → Is q → flat_map (row_text format) (row_of fields r ∷ []) ≡ flat_map (row_text format) (row_of fields q ∷ []) →
       r ≡ q
   same-row r q one other is = (first-row_of r q [] [] one other is).0
 
@@ -75,8 +72,7 @@ module _ (format : Format) (not : format ≢ Text) {Row : Type 0} (fields : Tabl
       let long = ap length is in
       let more = filled format (row_of fields r) (flat_map (row_text format) (map (row_of fields) rs)) in absurd (omega (arith, long, more))
   same-rows (r ∷ rs) (q ∷ qs) one other is =
-      let here = first-row_of r q (flat_map (row_text format) (map (row_of fields) rs))
-          (flat_map (row_text format) (map (row_of fields) qs))
+      let here = first-row_of r q (flat_map (row_text format) (map (row_of fields) rs)) (flat_map (row_text format) (map (row_of fields) qs))
       (All-head Is r rs one) (All-head Is q qs other) is in
       (λ i. here.0 i ∷ same-rows rs qs (All-tail Is r rs one) (All-tail Is q qs other) here.1 i)
 

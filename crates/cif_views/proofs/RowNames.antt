@@ -3,8 +3,7 @@ pub use Rattle.cif_rows.proofs.AddedTexts.{added-all, added-both, added-is, adde
 pub use Rattle.cif_rows.proofs.AddedTexts.{without_last-append}
 pub use Rattle.cif_rows.proofs.LongDates.{printable-date}
 pub use Rattle.cif_rows.specs.{Adds.Adds, Appended.IsAppended}
-pub use Rattle.cif_rows.specs.Row.{Field, Value, all_named, cell, cell_of, heading_text, named, nothing, number, number_field, row_text}
-pub use Rattle.cif_rows.specs.Row.{text}
+pub use Rattle.cif_rows.specs.Row.{Field, Value, all_named, cell, cell_of, heading_text, named, nothing, number, number_field, row_text, text}
 pub use Rattle.cif_rows.specs.Row.{trimmed}
 pub use Rattle.cif_rows.specs.Steps.{closing, field_text, fields_text, name_text, names_text, opening}
 pub use Rattle.cif_rows.specs.declared.{format.Format.Format, format.Format.TheVariants.Json, format.Format.TheVariants.Tsv}

@@ -102,8 +102,7 @@ module _ {K B : Type 0} (cmp : K → K → Ordering) (window : Window) (xs ys : 
   -- ---- so each that is listed has a row
 
   module _ (listed : List (Listed (K × Permanent B))) (by : AreByPairs found listed) (Fits : K × Permanent B → Type 0)
-      (rows : Listed (K × Permanent B) → List (List Value)) (fits : (side : Side) (e : K × Permanent B) → Contains (of_side side found) e →
-          Fits e)
+      (rows : Listed (K × Permanent B) → List (List Value)) (fits : (side : Side) (e : K × Permanent B) → Contains (of_side side found) e → Fits e)
       (alone : (s : Sided (K × Permanent B)) → 0 < length (rows (s, None)))
       (same : (s : Sided (K × Permanent B)) (r : K × Permanent B) → Fits s.it → Fits r → rows (s, Some r) ≡ [] → s.it.1.body ≡ r.1.body)
     where

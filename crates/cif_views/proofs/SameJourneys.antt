@@ -4,8 +4,7 @@ use Rattle.cif_views.proofs.Names.{IsTrue, JourneyKind, List, Numbered, Other, S
 use Rattle.cif_views.proofs.Names.{arith, call_columns, call_fields, change_fields, codes, columns, cond, decimal, decimal_injective, drop}
 use Rattle.cif_views.proofs.Names.{false, false≢true, filter, find, get_or, has_row, is_call, is_change, is_identity}
 use Rattle.cif_views.proofs.Names.{journey_columns, journey_kind, kind_of_line, kinds, length, map, not, numbered_from, plain_line}
-use Rattle.cif_views.proofs.Names.{record_table, refl, row_values, subst, sym, take, true, values_in, ℕ, ◌++◌, ◌+◌, ◌-◌, ◌^◌, ◌∙◌, ◌∷◌, ◌≡◌}
-use Rattle.cif_views.proofs.Names.{◌≤◌}
+use Rattle.cif_views.proofs.Names.{record_table, refl, row_values, subst, sym, take, true, values_in, ℕ, ◌++◌, ◌+◌, ◌-◌, ◌^◌, ◌∙◌, ◌∷◌, ◌≡◌, ◌≤◌}
 use Rattle.cif_records.proofs.Records as records
 use Rattle.cif_records.specs.declared.record.Record.{Record}
 use Rattle.cif_records.specs.declared.record.Record.TheVariants as of

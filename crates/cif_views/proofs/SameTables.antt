@@ -47,8 +47,7 @@ module _ (format : Format) (not : format ≢ Text) (x y : ExtractLines) (one : A
   rows : (table : Table) → table ≢ Public → text (table_rows table x) ≡ text (table_rows table y)
   unfolding table_text
   rows table other_table =
-      append_cancel_left (heading_text format (table_names table)) (text (table_rows table x)) (text (table_rows table y))
-          (same table other_table)
+      append_cancel_left (heading_text format (table_names table)) (text (table_rows table x)) (text (table_rows table y)) (same table other_table)
 
   few-of : (z : ExtractLines) → ArePlain z → 1 + length z.schedules ≤ 2 ^ 64
   few-of z p = let few = p.few in omega (arith, few)
@@ -60,8 +59,7 @@ module _ (format : Format) (not : format ≢ Text) (x y : ExtractLines) (one : A
 
   tiplocs : x.tiplocs ≡ y.tiplocs
   tiplocs =
-      same-plain_rows tiploc_table tiploc_columns (λ t. refl) (λ t u. refl) format not tiploc_fields (λ l. refl) refl (omega arith)
-          x.tiplocs
+      same-plain_rows tiploc_table tiploc_columns (λ t. refl) (λ t u. refl) format not tiploc_fields (λ l. refl) refl (omega arith) x.tiplocs
       y.tiplocs one.tiplocs other.tiplocs (rows Tiplocs (λ e. absurd (cc)))
 
   associations : x.associations ≡ y.associations
@@ -231,8 +229,7 @@ module _ (form : Form) (x : ExtractParts) (text : List ℕ) (is : IsCanonicalTex
 
 -- ---- canonical extracts
 
-module _ (format : Format) (not : format ≢ Text) (form other : Form) (x y : ExtractParts) (c d : CanonParts) (one : IsCanonOf form x c)
-    (two : IsCanonOf other y d)
+module _ (format : Format) (not : format ≢ Text) (form other : Form) (x y : ExtractParts) (c d : CanonParts) (one : IsCanonOf form x c) (two : IsCanonOf other y d)
     (few : length c.text < 2 ^ 64) (as-few : length d.text < 2 ^ 64) where
   abbrev made : ExtractParts
   made = one.canonical.made
@@ -255,8 +252,7 @@ module _ (format : Format) (not : format ≢ Text) (form other : Form) (x y : Ex
 
   same-text : HaveSameTables format c.lines d.lines ↔ (c.text ≡ d.text)
   same-text =
-      (text-of_tables, λ same table other_table. ap (table_text format table)
-          (one.lines_are ∙ ap lines_of (one-made same) ∙ sym two.lines_are))
+      (text-of_tables, λ same table other_table. ap (table_text format table) (one.lines_are ∙ ap lines_of (one-made same) ∙ sym two.lines_are))
 
 -- of one form they have the same tables exactly if they say the same
 module _ (format : Format) (not : format ≢ Text) (form : Form) (x y : ExtractParts) (c d : CanonParts) (one : IsCanonOf form x c)
@@ -269,8 +265,7 @@ module _ (format : Format) (not : format ≢ Text) (form : Form) (x y : ExtractP
 
   said : HaveSameTables format c.lines d.lines → SameMeaning x y
   said same =
-      let made = one-made format not form form x y c d one two few as-few
-          (text-of_tables format not form form x y c d one two few as-few same) in
+      let made = one-made format not form form x y c d one two few as-few (text-of_tables format not form form x y c d one two few as-few same) in
       same-trans x p.made y p.same (subst (λ m. SameMeaning m y) (sym made) (same-sym y q.made q.same))
 
   shown-same : SameMeaning x y → HaveSameTables format c.lines d.lines

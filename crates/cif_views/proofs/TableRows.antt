@@ -5,8 +5,7 @@ use Rattle.cif_views.proofs.Names.{append_assoc, are_within, arith, at_drop_all,
 use Rattle.cif_views.proofs.Names.{change_fields, column, columns_of, cond, drop, enumerate_from, false, fields_in, filter, flat_map}
 use Rattle.cif_views.proofs.Names.{flat_map-append, get_or, inl, inr, is_call, is_change, is_within, journey_rows}
 use Rattle.cif_views.proofs.Names.{kind_of_line, length, map, nat_tests, numbered_from, own_call_fields, refl, room_for, row_of}
-use Rattle.cif_views.proofs.Names.{row_of_kind, row_values, rows_of, schedule_rows, slice_index_or, subst, suc, sym, table_rows, true}
-use Rattle.cif_views.proofs.Names.{values_in}
+use Rattle.cif_views.proofs.Names.{row_of_kind, row_values, rows_of, schedule_rows, slice_index_or, subst, suc, sym, table_rows, true, values_in}
 use Rattle.cif_views.proofs.Names.{zero, ℕ, ◌++◌, ◌+◌, ◌<◌, ◌==◌, ◌∙◌, ◌∷◌, ◌≡◌, ◌≤◌, ◌⊎◌}
 use Rattle.cif_views.proofs.RowNames.{Field, Format, Value, all_named, field_text, fields_text, number, some-field}
 use Rattle.cif_views.proofs.Names.{decimal, names, take}
@@ -15,8 +14,7 @@ use Rattle.cif_views.specs.declared.columns.JourneyKind.TheVariants.{Origin, Ter
 -- ---- the columns of a table
 
 -- each is within a line, and its name is no longer than all
-pub within-at : (given : List (Bor (List ℕ) × FieldPlace)) → IsTrue (are_within (columns_of given)) → (i : ℕ)
-    (none : Bor (List ℕ) × FieldPlace) →
+pub within-at : (given : List (Bor (List ℕ) × FieldPlace)) → IsTrue (are_within (columns_of given)) → (i : ℕ) (none : Bor (List ℕ) × FieldPlace) →
     i < length given → IsTrue (is_within (column (get_or given i none)).1)
 within-at [] all i none below = absurd (omega (arith, below))
 within-at (c ∷ given) all zero none below = (and_parts (is_within (column c).1) (are_within (columns_of given)) all).0

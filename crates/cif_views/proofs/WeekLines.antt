@@ -87,11 +87,9 @@ module _ {B : Type 0} (records : Records B) (lawful : AreLawful records) (d : �
 
 -- ---- the whole text
 
-module _ (x : ExtractParts) (u : List ℕ) (first last : ℕ) (states : List DayState) (from : first ≡ x.header.first)
-    (upto : last ≡ x.header.last)
+module _ (x : ExtractParts) (u : List ℕ) (first last : ℕ) (states : List DayState) (from : first ≡ x.header.first) (upto : last ≡ x.header.last)
     (a : AreDayStates (of_key (schedule_entries x.schedules) u) first (last + 1) states) where
-  pub stands-on : (d : ℕ) → x.header.first ≤ d → d ≤ x.header.last → IsDayState (of_key (schedule_entries x.schedules) u) d
-      (state_in first states d)
+  pub stands-on : (d : ℕ) → x.header.first ≤ d → d ≤ x.header.last → IsDayState (of_key (schedule_entries x.schedules) u) d (state_in first states d)
   stands-on d low high =
       let start : first ≡ x.header.first = from in
       let end : last ≡ x.header.last = upto in

@@ -29,8 +29,7 @@ table_with calls = record { format = Tsv; calls = calls }
 pub record CallsHaveAll : Type 0 where
   pub origin : (o : Origin) → HasAll call_names (listed_fields (origin_call o)) × HasAll nested_names (nested_fields (origin_call o))
   pub stop : (s : Stop) → HasAll call_names (listed_fields (stop_call s)) × HasAll nested_names (nested_fields (stop_call s))
-  pub terminus : (t : Terminus) → HasAll call_names (listed_fields (terminus_call t)) × HasAll nested_names
-      (nested_fields (terminus_call t))
+  pub terminus : (t : Terminus) → HasAll call_names (listed_fields (terminus_call t)) × HasAll nested_names (nested_fields (terminus_call t))
 
 -- the rows of a day: of an association, of a train, and of each with a call
 pub record DayRowsHaveAll : Type 0 where

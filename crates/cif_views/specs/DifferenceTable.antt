@@ -131,8 +131,7 @@ abbrev pub journey_differences : List Value → List Numbered → List Numbered 
 journey_differences head ps qs =
     if pointwise (pointwise nat_eq) (map place_columns ps) (map place_columns qs)
     then place_rows head ps qs
-    else differing_row (head ++ replicate 3 nothing) (codes "journey") (text (decimal (call_count ps))) (text (decimal (call_count qs))) ∷
-        []
+    else differing_row (head ++ replicate 3 nothing) (codes "journey") (text (decimal (call_count ps))) (text (decimal (call_count qs))) ∷ []
 
 -- A pair of schedules: the fields of BS, whether there is a BX, the fields of BX, and then the journey.
 abbrev pub schedule_differences : Listed ScheduleLines → List (List Value)

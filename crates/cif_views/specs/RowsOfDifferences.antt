@@ -17,8 +17,7 @@ pub record HaveRows (d : DifferencesParts) : Type 0 where
   pub schedules : (l : Listed ScheduleLines) → Contains (schedule_lines d) l → HasRow (schedule_differences l)
 
 -- A field of a pair has its row exactly if its cells differ, and none if they are the same.
-pub record IsRowOfField (start : List Value) (left right : List ℕ) (name : List ℕ) (field : List ℕ → Value) (row : List (List Value)) : Type
-    0 where
+pub record IsRowOfField (start : List Value) (left right : List ℕ) (name : List ℕ) (field : List ℕ → Value) (row : List (List Value)) : Type 0 where
   pub differs : cell_of (field left) ≢ cell_of (field right) → row ≡ differing_row start name (field left) (field right) ∷ []
   pub same : cell_of (field left) ≡ cell_of (field right) → row ≡ []
 

@@ -11,8 +11,7 @@ ghost use Rattle.cif_views.specs.{Tables.category_fields, Tables.type_fields};
 ghost use Rattle.cif_views.specs.Steps.Columns.{column, columns_of, is_span};
 ghost use Rattle.cif_views.specs.Steps.DifferenceRows.{are_texts, count_of_calls, field_row, field_rows, is_text, own_columns};
 ghost use Rattle.cif_views.specs.Steps.DifferenceRows.{rows_of_journeys, rows_of_place, rows_of_places, rows_text, same_places};
-ghost use Rattle.cif_views.specs.Steps.DifferenceHeads.{IsShortPlace, change_on, head_of, head_values, place_names, place_values};
-ghost use Rattle.cif_views.specs.Steps.DifferenceHeads.{start_values};
+ghost use Rattle.cif_views.specs.Steps.DifferenceHeads.{IsShortPlace, change_on, head_of, head_values, place_names, place_values, start_values};
 ghost use Rattle.cif_views.specs.declared.difference_table.RecordKind.TheVariants.{Association};
 
 use crate::columns::{
@@ -271,8 +270,7 @@ fn push_place<F: RowFormat, W: WriteDevice>(rows: &mut Rows<F>, place: &Place, s
 /// Appends the rows of a pair of associations: one for each of the fields that differ.
 fn write_associations<F: RowFormat, W: WriteDevice>(left: &Line, right: &Line, sink: &mut Sink<W>)
     ensures { IsAppended W.contents W.write_errors (rows_text F.FORMAT
-        (differing_rows (in_record (head_values Association None left.now) (codes "AA")) (category_fields ++ type_fields) left.now
-            right.now))
+        (differing_rows (in_record (head_values Association None left.now) (codes "AA")) (category_fields ++ type_fields) left.now right.now))
         sink.old sink.new }
 {
     let mut rows = Rows::<F>::new();

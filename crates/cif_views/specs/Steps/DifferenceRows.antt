@@ -1,6 +1,5 @@
 -- The rows of differences as the code makes them. No public clause cites them.
-use Rattle.std.specs.Prelude.{Bool, List, [], codes, cond, decimal, drop, false, if◌then◌else◌, length, map, nat_eq, nat_le, replicate}
-use Rattle.std.specs.Prelude.{true}
+use Rattle.std.specs.Prelude.{Bool, List, [], codes, cond, decimal, drop, false, if◌then◌else◌, length, map, nat_eq, nat_le, replicate, true}
 use Rattle.std.specs.Prelude.{ℕ, ◌&&◌, ◌++◌, ◌+◌, ◌∷◌}
 use Rattle.std.specs.{Cmp.Lexicographic.pointwise, List.flat_map}
 use Rattle.cif_columns.specs.Field.{columns}

@@ -12,5 +12,4 @@ returns g c =
     (named (codes "first_date") (Date, yymmdd_of run.first) ∷ named (codes "last_date") (Date, yymmdd_of run.last)
     ∷ named (codes "days_run") (text (days_columns run.days)) ∷ [])
     (journey_fields c.args.body.now) _ _ _ _ _ _
-    (rw (c.to_yymmdd.ensures.columns, c.to_yymmdd-2.ensures.columns, c.write.ensures.columns) at c.push_fields.ensures)
-        c.push_journey.ensures
+    (rw (c.to_yymmdd.ensures.columns, c.to_yymmdd-2.ensures.columns, c.write.ensures.columns) at c.push_fields.ensures) c.push_journey.ensures

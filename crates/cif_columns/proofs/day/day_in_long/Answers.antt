@@ -1,6 +1,5 @@
 -- The digits are those of the word (`digits-of-long`).
-use Rattle.cif_columns.proofs.{DateWords.digits-of-long, Names.List, Names.StandsInYymmdd, Names.rules, Names.subst, Names.sym, Names.◌≡◌}
-use Rattle.cif_columns.proofs.{Names.◌∙◌}
+use Rattle.cif_columns.proofs.{DateWords.digits-of-long, Names.List, Names.StandsInYymmdd, Names.rules, Names.subst, Names.sym, Names.◌≡◌, Names.◌∙◌}
 use Rattle.cif_columns.proofs.day.day_in_long.Goals as goal
 
 pub returns-then-eq-clause-only : goal.returns-then-eq-clause-only

@@ -8,7 +8,6 @@ pub returns-in-Ok-clause-reported : goal.returns-in-Ok-clause-reported
 returns-in-Ok-clause-reported g c =
     rw c.in-Ok.is
     (both g.W.Write.contents g.W.WriteDevice.write_errors _ _ _ _ _
-    (text-is g.W.Write.contents g.W.WriteDevice.write_errors _ _ _ _ (ap (flat_map unreached_line) c.unreached.ensures)
-        c.write_each.ensures)
+    (text-is g.W.Write.contents g.W.WriteDevice.write_errors _ _ _ _ (ap (flat_map unreached_line) c.unreached.ensures) c.write_each.ensures)
     (text-is g.W.Write.contents g.W.WriteDevice.write_errors _ _ _ _ (ap (flat_map dropped_line) c.as_slice.ensures.value)
     c.write_each-in-Ok.ensures))

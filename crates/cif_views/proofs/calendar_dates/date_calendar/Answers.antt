@@ -1,6 +1,5 @@
 -- The names and the rows are the calendar, by the format.
-use Rattle.cif_views.proofs.Names.{AreDayStates, DayState, List, Schedule, ap, extract_parts, fault-answered, of_key, schedule_entries}
-use Rattle.cif_views.proofs.Names.{state_in}
+use Rattle.cif_views.proofs.Names.{AreDayStates, DayState, List, Schedule, ap, extract_parts, fault-answered, of_key, schedule_entries, state_in}
 use Rattle.cif_views.proofs.Names.{subst, sym, written-so, ℕ, ◌+◌, ◌∙◌}
 use Rattle.cif_views.proofs.RowNames.{IsAppended}
 use Rattle.cif_views.proofs.WeekLines.{stands-on}
@@ -25,8 +24,7 @@ returns-clause-view g c =
       | in-Tsv w ↦ rw (w.in-Tsv.is, w.sink-is) w.write_dates-in-Tsv.ensures
       | in-Json w ↦ rw (w.in-Json.is, w.sink-is) w.write_dates-in-Json.ensures
     ] in
-    let stand = subst (λ (ss : List Schedule). AreDayStates (of_key (schedule_entries ss) u) first (last + 1) states)
-        c.as_slice.ensures.value
+    let stand = subst (λ (ss : List Schedule). AreDayStates (of_key (schedule_entries ss) u) first (last + 1) states) c.as_slice.ensures.value
     (subst (λ (l : List DayState). AreDayStates (of_key (schedule_entries c.as_slice.result.now) u) first (last + 1) l)
     (sym c.as_slice-states.ensures.value) c.in_ok-states.ensures) in (
       text,

@@ -7,22 +7,19 @@ pub returns-in-Text : goal.returns-in-Text
 returns-in-Text g c =
     let f = g.F.RowFormat.FORMAT in
     let call = c.args.call.now in
-    text-call _ _ f (sym c.FORMAT.ensures ∙ c.in-Text.is) (g.R.RowSource.fields c.args.row.now) (values_of call) _ _ _ _ _ _ _ _
-        (some-call f call)
+    text-call _ _ f (sym c.FORMAT.ensures ∙ c.in-Text.is) (g.R.RowSource.fields c.args.row.now) (values_of call) _ _ _ _ _ _ _ _ (some-call f call)
     c.begin_row.ensures c.push_call.ensures c.end_row.ensures
 
 pub returns-in-Tsv : goal.returns-in-Tsv
 returns-in-Tsv g c =
     let f = g.F.RowFormat.FORMAT in
     let call = c.args.call.now in
-    tsv-call _ _ f (sym c.FORMAT.ensures ∙ c.in-Tsv.is) (g.R.RowSource.fields c.args.row.now) (values_of call) _ _ _ _ _ _ _ _ _ _
-        (c.push_row.ensures.some f)
+    tsv-call _ _ f (sym c.FORMAT.ensures ∙ c.in-Tsv.is) (g.R.RowSource.fields c.args.row.now) (values_of call) _ _ _ _ _ _ _ _ _ _ (c.push_row.ensures.some f)
     c.begin_row-in-Tsv.ensures c.push_row.ensures.adds c.push_call-in-Tsv.ensures c.end_row-in-Tsv.ensures
 
 pub returns-in-Json : goal.returns-in-Json
 returns-in-Json g c =
     let f = g.F.RowFormat.FORMAT in
     let call = c.args.call.now in
-    json-call _ _ f (sym c.FORMAT.ensures ∙ c.in-Json.is) (g.R.RowSource.fields c.args.row.now) (values_of call) _ _ _ _ _ _ _ _
-        (some-call f call)
+    json-call _ _ f (sym c.FORMAT.ensures ∙ c.in-Json.is) (g.R.RowSource.fields c.args.row.now) (values_of call) _ _ _ _ _ _ _ _ (some-call f call)
     c.begin_call.ensures c.push_call-in-Json.ensures c.end_call.ensures

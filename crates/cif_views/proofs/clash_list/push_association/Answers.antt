@@ -1,8 +1,7 @@
 -- Eight fields, of which one is empty.
 use Rattle.cif_views.proofs.Names.{List, [], ap, codes, yymmdd_of, ℕ, ◌∷◌}
 use Rattle.cif_columns.specs.Text.{left_justified}
-use Rattle.cif_views.proofs.RowNames.{Date, Field, Whole, added-is, field-added, field_text, fields-added, named, nothing, text}
-use Rattle.cif_views.proofs.RowNames.{three-fields}
+use Rattle.cif_views.proofs.RowNames.{Date, Field, Whole, added-is, field-added, field_text, fields-added, named, nothing, text, three-fields}
 use Rattle.cif_views.proofs.clash_list.push_association.Goals as goal
 
 pub returns : goal.returns

@@ -1,7 +1,6 @@
 -- Eight fields, of which five are empty.
 use Rattle.cif_views.proofs.Names.{List, [], ap, codes, yymmdd_of, ℕ, ◌∷◌}
-use Rattle.cif_views.proofs.RowNames.{Date, Field, Whole, added-is, field-added, field_text, fields-added, named, nothing, text}
-use Rattle.cif_views.proofs.RowNames.{three-fields}
+use Rattle.cif_views.proofs.RowNames.{Date, Field, Whole, added-is, field-added, field_text, fields-added, named, nothing, text, three-fields}
 use Rattle.cif_views.proofs.clash_list.push_train.Goals as goal
 
 pub returns : goal.returns

@@ -1,7 +1,6 @@
 -- The names, and then one row more (`one-added`), until no clash is left (`all-added`).
 use Rattle.cif_views.proofs.Names.{[], ap, append-nil, arith, subst, sym}
-use Rattle.cif_views.proofs.RowNames.{Adds, added-both, added-is, added-waits, all-added, all-written, heading_text, names-added, one-added}
-use Rattle.cif_views.proofs.RowNames.{row_text}
+use Rattle.cif_views.proofs.RowNames.{Adds, added-both, added-is, added-waits, all-added, all-written, heading_text, names-added, one-added, row_text}
 use Rattle.cif_views.specs.Clashes.{clash_names, clash_row}
 use Rattle.cif_views.proofs.clash_list.write_rows.Goals as goal
 

@@ -7,6 +7,5 @@ use Rattle.cif_views.proofs.clash_list.write_rows.Given as goal
 abbrev pub invariant-loop-clash : goal.invariant-loop-clash
 invariant-loop-clash g l =
     Adds g.W.Write.contents g.W.WriteDevice.write_errors
-    (flat_map (λ clash. row_text g.F.RowFormat.FORMAT (clash_row clash)) (take l.clash-index l.clashes)) l.initial.sink l.sink
-        l.initial.rows
+    (flat_map (λ clash. row_text g.F.RowFormat.FORMAT (clash_row clash)) (take l.clash-index l.clashes)) l.initial.sink l.sink l.initial.rows
     l.rows

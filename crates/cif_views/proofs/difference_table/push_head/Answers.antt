@@ -28,20 +28,17 @@ module _ {W : Type 0} (contents : W → Option (List ℕ)) (errors : W → Optio
 pub returns-in-Tiploc : goal.returns-in-Tiploc
 returns-in-Tiploc g c =
     rw c.in-Tiploc.is
-    (head-added _ _ g.F.RowFormat.FORMAT c.args.head.now.side _ c.change_of.ensures.text (codes "TI")
-        (own Tiploc c.args.head.now.side c.args.head.now.line) _ _ _ _ _ _ _ _ c.push_text.ensures
+    (head-added _ _ g.F.RowFormat.FORMAT c.args.head.now.side _ c.change_of.ensures.text (codes "TI") (own Tiploc c.args.head.now.side c.args.head.now.line) _ _ _ _ _ _ _ _ c.push_text.ensures
     c.push_text-in-Tiploc.ensures c.push_each.ensures)
 
 pub returns-in-Association : goal.returns-in-Association
 returns-in-Association g c =
     rw c.in-Association.is
-    (head-added _ _ g.F.RowFormat.FORMAT c.args.head.now.side _ c.change_of.ensures.text (codes "AA")
-        (own Association c.args.head.now.side c.args.head.now.line) _ _ _ _ _ _ _ _ c.push_text.ensures
+    (head-added _ _ g.F.RowFormat.FORMAT c.args.head.now.side _ c.change_of.ensures.text (codes "AA") (own Association c.args.head.now.side c.args.head.now.line) _ _ _ _ _ _ _ _ c.push_text.ensures
     c.push_text-in-Association.ensures c.push_each-in-Association.ensures)
 
 pub returns-in-Schedule : goal.returns-in-Schedule
 returns-in-Schedule g c =
     rw c.in-Schedule.is
-    (head-added _ _ g.F.RowFormat.FORMAT c.args.head.now.side _ c.change_of.ensures.text (codes "BS")
-        (own Schedule c.args.head.now.side c.args.head.now.line) _ _ _ _ _ _ _ _ c.push_text.ensures
+    (head-added _ _ g.F.RowFormat.FORMAT c.args.head.now.side _ c.change_of.ensures.text (codes "BS") (own Schedule c.args.head.now.side c.args.head.now.line) _ _ _ _ _ _ _ _ c.push_text.ensures
     c.push_text-in-Schedule.ensures c.push_each-in-Schedule.ensures)

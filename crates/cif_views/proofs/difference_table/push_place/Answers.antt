@@ -7,8 +7,7 @@ use Rattle.cif_views.proofs.difference_table.push_place.Goals as goal
 pub returns-in-Record : goal.returns-in-Record
 returns-in-Record g c =
     rw c.in-Record.is
-    (three-fields _ _ g.F.RowFormat.FORMAT _ _ _ _ _ _ _ _ _ _ _ c.push_nothing.ensures c.push_text.ensures
-        c.push_nothing-in-Record.ensures)
+    (three-fields _ _ g.F.RowFormat.FORMAT _ _ _ _ _ _ _ _ _ _ _ c.push_nothing.ensures c.push_text.ensures c.push_nothing-in-Record.ensures)
 
 pub returns-in-Journey : goal.returns-in-Journey
 returns-in-Journey g c =

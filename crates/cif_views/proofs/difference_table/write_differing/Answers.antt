@@ -1,6 +1,5 @@
 -- One field more (`one-added`), until none is left (`all-added`).
-use Rattle.cif_views.proofs.Names.{[], append-nil, column, columns_of, difference_text, field_row, flat_map-map, rows_text, start_values}
-use Rattle.cif_views.proofs.Names.{sym, ◌∙◌}
+use Rattle.cif_views.proofs.Names.{[], append-nil, column, columns_of, difference_text, field_row, flat_map-map, rows_text, start_values, sym, ◌∙◌}
 use Rattle.cif_views.proofs.DifferingFields.{text-at}
 use Rattle.cif_views.proofs.RowNames.{added-is, added-waits, all-added, one-added}
 use Rattle.cif_views.proofs.TableRows.{flat-twice}

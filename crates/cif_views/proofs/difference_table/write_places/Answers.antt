@@ -1,6 +1,5 @@
 -- One place more is written (`one-place`).
-use Rattle.cif_views.proofs.Names.{[], ap, append-nil, arith, difference_text, flat_map-append, head_of, is_call, length, refl}
-use Rattle.cif_views.proofs.Names.{rows_of_place}
+use Rattle.cif_views.proofs.Names.{[], ap, append-nil, arith, difference_text, flat_map-append, head_of, is_call, length, refl, rows_of_place}
 use Rattle.cif_views.proofs.Names.{rows_of_places, sym, ◌++◌}
 use Rattle.cif_views.proofs.DifferingFields.{as-many, one-place, rest-places}
 use Rattle.cif_views.proofs.RowNames.{added-both, added-is, added-waits}

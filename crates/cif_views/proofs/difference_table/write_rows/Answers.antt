@@ -1,9 +1,7 @@
 -- The line of the names goes first, and then what is listed: by lines, which are those of the records.
 use Rattle.cif_views.proofs.Names.{ap, association_differences, association_lines, association_plain, both, by_pairs}
-use Rattle.cif_views.proofs.Names.{difference_table, difference_text, flat_map, flat_map-append, flat_map-map, key_cmp, line_of_tiploc}
-use Rattle.cif_views.proofs.Names.{listed_as}
-use Rattle.cif_views.proofs.Names.{map, nat_cmp, schedule_differences, schedule_lines, schedule_plain, slice_cmp, sym, tiploc_lines}
-use Rattle.cif_views.proofs.Names.{tiploc_row}
+use Rattle.cif_views.proofs.Names.{difference_table, difference_text, flat_map, flat_map-append, flat_map-map, key_cmp, line_of_tiploc, listed_as}
+use Rattle.cif_views.proofs.Names.{map, nat_cmp, schedule_differences, schedule_lines, schedule_plain, slice_cmp, sym, tiploc_lines, tiploc_row}
 use Rattle.cif_views.proofs.Names.{◌++◌, ◌∙◌}
 use Rattle.cif_views.proofs.TableRows.{flat-twice}
 use Rattle.cif_canon.proofs.AppendedTexts.{text-is}

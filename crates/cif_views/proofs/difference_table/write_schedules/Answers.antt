@@ -1,8 +1,6 @@
 -- The rows of the fields and those of the journeys are those of the pair (`schedule-rows`).
-use Rattle.cif_views.proofs.Names.{List, Other, ap, basic_columns, changed, codes, difference_text, drop, extra_columns, extra_in}
-use Rattle.cif_views.proofs.Names.{field_rows}
-use Rattle.cif_views.proofs.Names.{flat_map-append, in_record, rows_of_journeys, rows_text, schedule_head, schedule_plain, sym, take}
-use Rattle.cif_views.proofs.Names.{without_extra}
+use Rattle.cif_views.proofs.Names.{List, Other, ap, basic_columns, changed, codes, difference_text, drop, extra_columns, extra_in, field_rows}
+use Rattle.cif_views.proofs.Names.{flat_map-append, in_record, rows_of_journeys, rows_text, schedule_head, schedule_plain, sym, take, without_extra}
 use Rattle.cif_views.proofs.Names.{ℕ, ◌++◌, ◌∙◌, ◌≡◌}
 use Rattle.cif_views.proofs.PairedJourneys.{schedule-rows}
 use Rattle.cif_views.proofs.RowNames.{Value, added-both, added-is, all-written}

@@ -9,8 +9,7 @@ use Rattle.cif_views.proofs.explanation.write_names.Goals as goal
 pub returns : goal.returns
 returns g c =
     let f = g.F.RowFormat.FORMAT in
-    let start = codes "date" ∷ codes "mark" ∷ codes "kind" ∷ codes "stp_indicator" ∷ codes "first_date" ∷ codes "last_date" ∷ codes
-        "days_run" ∷ [] in
+    let start = codes "date" ∷ codes "mark" ∷ codes "kind" ∷ codes "stp_indicator" ∷ codes "first_date" ∷ codes "last_date" ∷ codes "days_run" ∷ [] in
     let all = names-both _ _ f start (train_names ++ association_names) _ _ _ _ _ _ c.push_names.ensures
     (names-both _ _ f train_names association_names _ _ _ _ _ _ c.push_names-2.ensures c.push_names-3.ensures) in
     let named = names-added _ _ f explanation_names _ _ _ _ (omega arith) all in

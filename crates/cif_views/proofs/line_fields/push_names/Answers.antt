@@ -7,8 +7,7 @@ use Rattle.cif_views.proofs.line_fields.push_names.Goals as goal
 
 pub push_name-requires : goal.push_name-requires
 push_name-requires g c =
-    let room = name-at c.args.columns.now c.loop-column.column-index (record { ref_ptr = (0, 0); now = [] }, Text 0 0)
-        c.loop-column-test.true in
+    let room = name-at c.args.columns.now c.loop-column.column-index (record { ref_ptr = (0, 0); now = [] }, Text 0 0) c.loop-column-test.true in
     let known = c.requires in
     record { narrow = omega (arith, room, known) }
 

@@ -20,8 +20,7 @@ returns-in-Tsv-clause-view g c =
     let same : listing_in Tsv listing.calls ≡ listing = (λ i. record { format = sym c.in-Tsv.is i; calls = listing.calls }) in
     subst (λ (l : Listing). (x : List ℕ)
     × FaultWrites g.W.Write.contents g.W.WriteDevice.write_errors x c.args.sink.now c.list_day-in-Tsv.new.sink c.list_day-in-Tsv.result
-    × IfWritten c.list_day-in-Tsv.result (IsDayListing l (extract_parts c.args.extract.now) c.args.day x)) same
-        c.list_day-in-Tsv.ensures.view
+    × IfWritten c.list_day-in-Tsv.result (IsDayListing l (extract_parts c.args.extract.now) c.args.day x)) same c.list_day-in-Tsv.ensures.view
 
 pub returns-in-Json-clause-view : goal.returns-in-Json-clause-view
 returns-in-Json-clause-view g c =
@@ -29,5 +28,4 @@ returns-in-Json-clause-view g c =
     let same : listing_in Json listing.calls ≡ listing = (λ i. record { format = sym c.in-Json.is i; calls = listing.calls }) in
     subst (λ (l : Listing). (x : List ℕ)
     × FaultWrites g.W.Write.contents g.W.WriteDevice.write_errors x c.args.sink.now c.list_day-in-Json.new.sink c.list_day-in-Json.result
-    × IfWritten c.list_day-in-Json.result (IsDayListing l (extract_parts c.args.extract.now) c.args.day x)) same
-        c.list_day-in-Json.ensures.view
+    × IfWritten c.list_day-in-Json.result (IsDayListing l (extract_parts c.args.extract.now) c.args.day x)) same c.list_day-in-Json.ensures.view

@@ -10,8 +10,7 @@ returns g c =
     let f = g.F.RowFormat.FORMAT in
     let names = train_names (listing_in f c.args.calls) in
     let calls = call_names_if (listing_in f c.args.calls) in
-    let all = names-both _ _ f (codes "uid" ∷ codes "first_date" ∷ codes "last_date" ∷ codes "days_run" ∷ []) (journey_names ++ calls) _ _ _
-        _ _ _
+    let all = names-both _ _ f (codes "uid" ∷ codes "first_date" ∷ codes "last_date" ∷ codes "days_run" ∷ []) (journey_names ++ calls) _ _ _ _ _ _
     c.push_names.ensures
     (names-both _ _ f journey_names calls _ _ _ _ _ _ c.push_names-2.ensures c.push_call_names.ensures) in
     let named = names-added _ _ f names _ _ _ _ (omega arith) all in

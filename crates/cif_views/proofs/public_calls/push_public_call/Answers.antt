@@ -1,7 +1,6 @@
 -- The fields go one after another.
 use Rattle.cif_views.proofs.Names.{List, [], ap, codes, kind_of_line, ℕ, ◌-◌, ◌∙◌, ◌∷◌, midnight, riders_of, time_text}
-use Rattle.cif_views.proofs.RowNames.{Field, Number, Whole, added-is, field-added, field_text, fields-added, named, number_field, text}
-use Rattle.cif_views.proofs.RowNames.{three-fields}
+use Rattle.cif_views.proofs.RowNames.{Field, Number, Whole, added-is, field-added, field_text, fields-added, named, number_field, text, three-fields}
 use Rattle.cif_views.specs.PublicCalls.{pick_up, platform_in, set_down, times_of}
 use Rattle.cif_views.specs.Tables.{text_at}
 use Rattle.cif_views.proofs.public_calls.push_public_call.Goals as goal

@@ -1,6 +1,5 @@
 -- One line more is written (`one-line`), and where no line is left the rows are whole (`none-left`).
-use Rattle.cif_views.proofs.Names.{ap, arith, flat_map, flat_map-append, is_call, kind_of_line, length, length-drop, refl, row_of_step}
-use Rattle.cif_views.proofs.Names.{step_at}
+use Rattle.cif_views.proofs.Names.{ap, arith, flat_map, flat_map-append, is_call, kind_of_line, length, length-drop, refl, row_of_step, step_at}
 use Rattle.cif_views.proofs.Names.{sym, ◌++◌, ◌+◌, ◌∙◌}
 use Rattle.cif_views.proofs.Names.{[], None, append-nil, midnight, ◌≡◌}
 use Rattle.cif_views.proofs.PublicRows.{none-left, one-line, rows_left}

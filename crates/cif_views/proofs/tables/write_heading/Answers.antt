@@ -1,6 +1,5 @@
 -- The names of the numbers, of the columns of one line, and of another.
-use Rattle.cif_views.proofs.Names.{List, Table, ap, append_assoc, arith, column_names, columns_of, flat_map-append, length, subst, sym}
-use Rattle.cif_views.proofs.Names.{table_names, ℕ, ◌++◌}
+use Rattle.cif_views.proofs.Names.{List, Table, ap, append_assoc, arith, column_names, columns_of, flat_map-append, length, subst, sym, table_names, ℕ, ◌++◌}
 use Rattle.cif_views.proofs.Names.{◌<◌, ◌∙◌}
 use Rattle.cif_views.proofs.RowNames.{Adds, added-both, added-is, all-written, heading_text, name_text, names-added, names_text}
 use Rattle.cif_views.specs.declared.tables.Table.TheVariants as table

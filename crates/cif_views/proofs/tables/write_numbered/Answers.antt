@@ -1,8 +1,7 @@
 -- The table has a row of the line (`row-added`), or none.
 use Rattle.cif_views.proofs.Names.{Bool, JourneyKind, List, [], ap, append-nil, codes, cond, fields_in, flat_map, has_row, journey_columns}
 use Rattle.cif_views.proofs.Names.{refl, row_of_kind, sym, ℕ, ◌∙◌, ◌∷◌, ◌≡◌}
-use Rattle.cif_views.proofs.RowNames.{Field, Number, added-is, added-waits, field-added, fields-added, named, number_field, row-added}
-use Rattle.cif_views.proofs.RowNames.{row_text}
+use Rattle.cif_views.proofs.RowNames.{Field, Number, added-is, added-waits, field-added, fields-added, named, number_field, row-added, row_text}
 use Rattle.cif_views.proofs.RowNames.{some-field}
 use Rattle.cif_views.proofs.tables.write_numbered.Goals as goal
 
@@ -29,8 +28,7 @@ returns-then-has_row-clause-row g c =
     (fields-added _ _ f (k ∷ []) others _ _ _ _ _ _ (field-added _ _ f k _ _ _ _ c.push_number.ensures) c.push_journey.ensures) in
     added-is _ _ _ _ _ _ _ _
     (sym (append-nil (row_text f own))
-    ∙ ap (flat_map (row_text f)) (own-rows calls _ c.args.schedule.now c.args.call kind _ line c.if-has_row.ensures
-        c.kind_of_line-kind.ensures))
+    ∙ ap (flat_map (row_text f)) (own-rows calls _ c.args.schedule.now c.args.call kind _ line c.if-has_row.ensures c.kind_of_line-kind.ensures))
     (row-added _ _ f own _ _ _ _ _ _ _ _ (some-field f n (k ∷ others) refl) c.begin_row.ensures fields c.end_row.ensures)
 
 pub returns-else-has_row-clause-row : goal.returns-else-has_row-clause-row
@@ -40,6 +38,5 @@ returns-else-has_row-clause-row g c =
     let kind = c.kind_of_line-kind.result in
     let line = c.args.line.now in
     added-is _ _ _ _ _ _ _ _
-    (ap (flat_map (row_text f)) (own-rows calls _ c.args.schedule.now c.args.call kind _ line c.if-has_row.ensures
-        c.kind_of_line-kind.ensures))
+    (ap (flat_map (row_text f)) (own-rows calls _ c.args.schedule.now c.args.call kind _ line c.if-has_row.ensures c.kind_of_line-kind.ensures))
     (added-waits _ _ [] _ _ _ (sym (append-nil _)))

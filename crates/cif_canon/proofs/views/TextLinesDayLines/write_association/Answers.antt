@@ -7,6 +7,5 @@ use Rattle.cif_canon.proofs.views.TextLinesDayLines.write_association.Goals as g
 pub returns : goal.returns
 returns g c =
     all-written _ _ _ _ _ _ _ _ c.new-rows.ensures
-    (row-added _ _ Text (association_row (c.args.key.now, c.args.body.now)) _ _ _ _ _ _ _ _
-        (association-some Text (c.args.key.now, c.args.body.now)) c.begin_row.ensures c.push_association_row.ensures
+    (row-added _ _ Text (association_row (c.args.key.now, c.args.body.now)) _ _ _ _ _ _ _ _ (association-some Text (c.args.key.now, c.args.body.now)) c.begin_row.ensures c.push_association_row.ensures
     c.end_row.ensures) c.finish.ensures

@@ -7,6 +7,5 @@ use Rattle.cif_canon.proofs.views.TextLinesDayLines.write_train.Goals as goal
 pub returns : goal.returns
 returns g c =
     all-written _ _ _ _ _ _ _ _ c.new-rows.ensures
-    (row-added _ _ Text (train_row (c.args.uid.now, c.args.body.now)) _ _ _ _ _ _ _ _ (train-some Text (c.args.uid.now, c.args.body.now))
-        c.begin_row.ensures c.push_train_row.ensures
+    (row-added _ _ Text (train_row (c.args.uid.now, c.args.body.now)) _ _ _ _ _ _ _ _ (train-some Text (c.args.uid.now, c.args.body.now)) c.begin_row.ensures c.push_train_row.ensures
     c.end_row.ensures) c.finish.ensures

@@ -8,6 +8,5 @@ use Rattle.cif_canon.proofs.views.TextLinesTrainLines.write_schedule.Goals as go
 pub returns : goal.returns
 returns g c =
     all-written _ _ _ _ _ _ _ _ c.new-rows.ensures
-    (row-added _ _ Text (schedule_row (record_of c.args.run.now c.args.body.now)) _ _ _ _ _ _ _ _
-        (schedule-some Text (record_of c.args.run.now c.args.body.now)) c.begin_row.ensures c.push_schedule_row.ensures
+    (row-added _ _ Text (schedule_row (record_of c.args.run.now c.args.body.now)) _ _ _ _ _ _ _ _ (schedule-some Text (record_of c.args.run.now c.args.body.now)) c.begin_row.ensures c.push_schedule_row.ensures
     c.end_row.ensures) c.finish.ensures

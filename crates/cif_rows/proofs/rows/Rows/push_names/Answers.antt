@@ -6,8 +6,7 @@ use Rattle.cif_rows.proofs.rows.Rows.push_names.Goals as goal
 
 pub push_name-requires : goal.push_name-requires
 push_name-requires g c =
-    let short = short-at c.args.names.now c.loop-name.name-index (record { ref_ptr = (0, 0); now = [] }) c.requires.short
-        c.loop-name-test.true in
+    let short = short-at c.args.names.now c.loop-name.name-index (record { ref_ptr = (0, 0); now = [] }) c.requires.short c.loop-name-test.true in
     omega (arith, short)
 
 pub loop-name-init : goal.loop-name-init

@@ -20,8 +20,7 @@ returns-in-None g c =
     text-is _ _ _ _ _ _
     (ap (λ (l : List ℕ). difference_text f (single_row (head_values Schedule (Some e.side) l))) c.basic.ensures
     ∙ sym (append-nil _)
-    ∙ ap (rows_text f) (ap (λ (o : Option Record). rows (record { side = e.side; it = e.one }, o)) (sym c.in-None.is) ∙ ap rows
-        c.item.view_is))
+    ∙ ap (rows_text f) (ap (λ (o : Option Record). rows (record { side = e.side; it = e.one }, o)) (sym c.in-None.is) ∙ ap rows c.item.view_is))
     c.write_single.ensures
 
 pub returns-in-Some : goal.returns-in-Some
@@ -29,6 +28,5 @@ returns-in-Some g c =
     let e = c.item.inside in
     let f = g.F.RowFormat.FORMAT in
     text-is _ _ _ _ _ _
-    (ap (rows_text f) (ap (λ (o : Option Record). rows (record { side = e.side; it = e.one }, o)) (sym c.in-Some.is) ∙ ap rows
-        c.item.view_is))
+    (ap (rows_text f) (ap (λ (o : Option Record). rows (record { side = e.side; it = e.one }, o)) (sym c.in-Some.is) ∙ ap rows c.item.view_is))
     c.write_schedules.ensures

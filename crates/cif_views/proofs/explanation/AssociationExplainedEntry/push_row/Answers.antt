@@ -20,7 +20,6 @@ pub returns-clause-some : goal.returns-clause-some
 unfolding explained_association_row
 returns-clause-some g c place format =
     let one = c.args.self.now in
-    let rest = drop 2 (start_fields c.args.day c.args.mark (codes "AA") (association_terms one)) ++
-        (no_train ++ said_of_association one.key one.body) in
+    let rest = drop 2 (start_fields c.args.day c.args.mark (codes "AA") (association_terms one)) ++ (no_train ++ said_of_association one.key one.body) in
     let mark = named (codes "mark") (text (mark_columns c.args.mark)) in
     some-later format (date_field c.args.day) (mark ∷ rest) (some-field format mark rest refl)

@@ -7,10 +7,8 @@ use Rattle.cif_views.proofs.listing.AssociationRowRowSource.push_row.Goals as go
 pub returns-clause-adds : goal.returns-clause-adds
 returns-clause-adds g c =
     let r = c.args.self.now in
-    fields-added _ _ g.F.RowFormat.FORMAT (first_field r.first ∷ []) (association_row (r.key.now, r.body.now)) _ _ _ _ _ _
-        c.push_first.ensures c.push_association_row.ensures
+    fields-added _ _ g.F.RowFormat.FORMAT (first_field r.first ∷ []) (association_row (r.key.now, r.body.now)) _ _ _ _ _ _ c.push_first.ensures c.push_association_row.ensures
 
 pub returns-clause-some : goal.returns-clause-some
 returns-clause-some g c format =
-    let r = c.args.self.now in some-later format (first_field r.first) (association_row (r.key.now, r.body.now))
-        (association-some format (r.key.now, r.body.now))
+    let r = c.args.self.now in some-later format (first_field r.first) (association_row (r.key.now, r.body.now)) (association-some format (r.key.now, r.body.now))
