@@ -11,6 +11,7 @@ import sys
 FAILED = 4
 OLDEST = (3, 11)
 PACKAGES = {
+    "cif-feed": "feed",
     "cif-gtfs": "gtfs",
     "cif-gtfs-csv": "public_files",
     "cif-report": "report",
@@ -47,8 +48,13 @@ def run(program: str) -> None:
         os._exit(FAILED)  # pylint: disable=protected-access
 
 
+def feed() -> None:
+    """cif-feed, where it is installed by pip."""
+    run("cif-feed")
+
+
 def gtfs() -> None:
-    """cif-gtfs, where it is installed by pip."""
+    """cif-gtfs, likewise."""
     run("cif-gtfs")
 
 
