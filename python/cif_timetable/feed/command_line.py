@@ -5,6 +5,7 @@ import argparse
 import sys
 import tempfile
 from collections.abc import Sequence
+from contextlib import suppress
 from pathlib import Path
 
 from .._arguments import add_cif, add_help, new_parser
@@ -16,7 +17,7 @@ from .credentials import take_from_environment
 from .holidays import holidays_of
 from .outputs import listed_holidays
 from .raw import RawFiles
-from .run import bring_up_to_date
+from .run import bring_up_to_date, write_log
 from .settings import SOURCES, read_settings
 from .status import json_of, status_of, text_of
 from .versions import check_folder
@@ -113,7 +114,8 @@ def update_folder(asked: argparse.Namespace, progress: Progress) -> int:
     try:
         status, text = bring_up_to_date(read_settings(folder), find_cif(asked.cif), user, progress)
     except CifError as problem:
-        problem.lines = (" ".join(str(problem).split("\n")),)
+        with suppress(OSError):
+            write_log(folder, f"failed: {problem}")
         raise
     progress.clear()
     if text:

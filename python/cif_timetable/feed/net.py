@@ -60,6 +60,10 @@ class Known:
 class NotThere(Failed):
     """A server doesn't have a file."""
 
+    def __init__(self, label: str) -> None:
+        super().__init__(f"{label}: it isn't there (HTTP 404)")
+        self.label = label
+
 
 class Unreachable(Failed):
     """A server can't be reached, or fails: another try may succeed."""
@@ -158,7 +162,7 @@ def refusal_of(problem: HTTPError, label: str) -> CifError:
     if problem.code in (UNAUTHORISED, FORBIDDEN):
         return Denied(f"{label}: user and password are refused (HTTP {problem.code})")
     if problem.code == NOT_FOUND:
-        return NotThere(f"{label}: it isn't there (HTTP 404)")
+        return NotThere(label)
     if problem.code == TOO_MANY or problem.code >= SERVER_FAULTS:
         return Unreachable(f"{label}: the server fails (HTTP {problem.code})")
     if 300 <= problem.code < 400:

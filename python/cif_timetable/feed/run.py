@@ -10,7 +10,7 @@ from pathlib import Path
 from .._process import Cif
 from .._progress import Progress
 from .._running import description_of, printable
-from ..errors import SUCCESS, CifError, Failed, Refused
+from ..errors import FAILED, SUCCESS, CifError, Failed, Refused
 from ..sql.database import version_of
 from . import clock
 from .chain import Plan, best_plan
@@ -205,8 +205,8 @@ class Run:
             if age <= self.settings.late_days:
                 return
             late = f"nothing newer than {self.state} could be had, which is {age} days old"
-        absent = "; ".join(map(first_line, self.source.absent))
-        self.problems.append(Failed(f"{late} ({absent})" if absent else late))
+        absent = ", ".join(self.source.absent)
+        self.problems.append(Failed(f"{late} (not there: {absent})" if absent else late))
 
     def finish(self) -> None:
         """Removes what isn't needed any more."""
@@ -258,5 +258,9 @@ def bring_up_to_date(
         status = run.problems[0].status if run.problems else SUCCESS
         took = f"{run.source.fetched} fetched, {time.monotonic() - started:.0f} s"
         outcome = "failed: " if status else ""
-        write_log(settings.folder, outcome + "; ".join([*run.notes, *lines, took]))
+        try:
+            write_log(settings.folder, outcome + "; ".join([*run.notes, *lines, took]))
+        except OSError as problem:
+            lines.append(description_of(problem))
+            status = status or FAILED
     return status, "; ".join(lines)

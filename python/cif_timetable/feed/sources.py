@@ -38,7 +38,7 @@ LONGEST_TOKEN = 1 << 16
 
 class Source(ABC):
     """Fetches files into FOLDER/raw. What goes wrong with one of them is kept in `problems`, and what
-    has no bearing unless an extract is late in `absent`."""
+    isn't there, which may not matter, in `absent`."""
 
     has_updates = True
     # whether a full extract is looked for each time
@@ -47,7 +47,7 @@ class Source(ABC):
     def __init__(self, raw: RawFiles) -> None:
         self.raw = raw
         self.problems: list[CifError] = []
-        self.absent: list[CifError] = []
+        self.absent: list[str] = []
         self.fetched = 0
         self.is_down = False
         self.asked: set[str] = set()
@@ -69,7 +69,7 @@ class Source(ABC):
         try:
             work()
         except NotThere as problem:
-            self.absent.append(problem)
+            self.absent.append(problem.label)
         except (Refused, Failed) as problem:
             self.problems.append(problem)
             self.is_down = isinstance(problem, (Denied, Unreachable))
@@ -92,7 +92,7 @@ class Server(Source):
 
     def fetch_updates(self, since: date, today: date) -> None:
         """Of which night the file of a weekday is, isn't sure, so that of tomorrow may be there."""
-        first = max(since, today + timedelta(days=2 - WEEK))
+        first = min(max(since, today + timedelta(days=2 - WEEK)), today)
         for number in range((today - first).days + 2):
             weekday = WEEKDAYS[(first + timedelta(days=number)).weekday()]
             key = f"update-{weekday}"
@@ -185,7 +185,7 @@ class Folder(Source):
                     except Refused:
                         pass
             if not self.found:
-                self.absent.append(NotThere(f"{self.name}: no extract is there"))
+                self.absent.append(f"any extract in {self.name}")
         return self.found
 
     def label(self, path: Path) -> str:
