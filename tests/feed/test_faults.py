@@ -235,7 +235,7 @@ class Machines(OneServer):
         self.server.put("/sat.gz", packed(SAT))
         before = self.folder_files()
         words = words_of(self.now, "--cif", str(extracts.CIF), str(self.folder))
-        for size in 0, 300, 1000, 5000, 15000:
+        for size in 0, 1000, 15000:
 
             def limit(size: int = size) -> None:
                 resource.setrlimit(resource.RLIMIT_FSIZE, (size, size))
@@ -339,6 +339,28 @@ class Locks(OneServer):
             process.kill()
         self.server.put("/full.gz", packed(FULL))
         self.assert_silent(self.run_feed())
+
+    def test_killed_while_a_program_writes(self) -> None:
+        """What it has started goes on for a while, and is in nobody's way."""
+        self.settings("url", f"{self.server.address}/full.gz", outputs='database = "timetable.db"')
+        self.server.put("/full.gz", packed(FULL))
+        program = self.base / "cif"
+        program.write_text(
+            f'#!/bin/sh\ncase " $* " in *" calls "*) echo > "{self.base}/waits"; sleep 0.5 ;; esac\n'
+            f'exec {extracts.CIF} "$@"\n',
+            encoding="utf-8",
+        )
+        program.chmod(0o755)
+        with subprocess.Popen(
+            words_of(self.now, "--cif", str(program), str(self.folder))
+        ) as process:
+            while not (self.base / "waits").exists():
+                time.sleep(0.01)
+            process.kill()
+        self.assert_silent(self.run_feed())
+        time.sleep(0.5)
+        self.assertEqual(1, len(self.version_names()))
+        self.assertEqual(FULL, self.state())
 
     def test_status_needs_no_lock(self) -> None:
         self.start()

@@ -41,10 +41,8 @@ class Run:
         self.cif = cif
         self.progress = progress
         self.versions = Versions(settings.folder)
-        self.versions.clean()
         self.work = settings.folder / WORK
-        shutil.rmtree(self.work, ignore_errors=True)
-        self.work.mkdir()
+        self.clean_up()
         self.raw = RawFiles(settings.folder / "raw", self.work)
         self.source: Source = source_of(settings, self.raw, user)
         self.bad: set[Path] = set()
@@ -57,6 +55,12 @@ class Run:
             self.version = self.versions.current()
         except CifError as problem:
             self.problems.append(problem)
+
+    def clean_up(self) -> None:
+        """Leaves nothing of a run that was killed."""
+        shutil.rmtree(self.work, ignore_errors=True)
+        self.work.mkdir(exist_ok=True)
+        self.versions.clean(self.work)
 
     @property
     def state(self) -> Header | None:

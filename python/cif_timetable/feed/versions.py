@@ -158,13 +158,14 @@ class Versions:
         os.replace(new, self.link)
         synchronise(self.link.parent)
 
-    def clean(self) -> None:
-        """Removes what runs have left that were killed: versions that never became current."""
+    def clean(self, work: Path) -> None:
+        """Removes what runs have left that were killed: versions that never became current. Programs
+        that such a run has started may still write into them, so they are moved away first."""
         self.link.with_name(".current.new").unlink(missing_ok=True)
         current = self.current_name() or ""
         for name in self.names():
             if name > current:
-                shutil.rmtree(self.folder / name)
+                os.replace(self.folder / name, work / name)
 
     def prune(self, before: date) -> None:
         """Removes versions that were made before a date, but the current one."""
