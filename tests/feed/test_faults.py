@@ -2,6 +2,7 @@
 from __future__ import annotations
 
 import fcntl
+import json
 import os
 import resource
 import socket
@@ -367,7 +368,10 @@ class Locks(OneServer):
         self.at(5)
         with open(self.folder / "lock", "w", encoding="utf-8") as lock:
             fcntl.flock(lock, fcntl.LOCK_EX)
-            self.assertEqual(0, self.run_feed("--status", str(self.folder)).status)
+            with mock.patch("cif_timetable.feed.command_line.print_text") as printed:
+                done = self.run_feed("--status", "--json", str(self.folder))
+        self.assertEqual(0, done.status)
+        self.assertEqual("DFROC1S", json.loads(printed.call_args.args[0])["reference"])
 
 
 class Folders(InFolder):

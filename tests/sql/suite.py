@@ -43,7 +43,6 @@ def main() -> int:
             postgres.check(counts, maker, special, blank)
             documents.check_questions(counts, maker)
             documents.check_hub(counts, maker)
-        documents.check_job(counts, cif, folder / "nights")
         failures.check(counts, maker, special)
         words.check(counts)
     skipped = "" if "PGHOST" in os.environ else ", 1 skipped"
