@@ -20,7 +20,7 @@ from .whole import new_file
 
 # Seconds until a silent server is given up, and those between one try and the next.
 SILENCE = 60.0
-PAUSES = (2.0, 4.0, 8.0, 16.0, 32.0)
+PAUSES: tuple[float, ...] = (2.0, 4.0, 8.0, 16.0, 32.0)
 # The longest pause that a server may ask for.
 LONGEST_PAUSE = 60.0
 # What no feed needs: so many seconds and bytes for one file.

@@ -22,12 +22,17 @@ def call_of(program: str, words: Sequence[str]) -> list[str]:
     return [sys.executable, "-B", str(START), program, *words]
 
 
-def ending(status: int, said: Sequence[str], program: str) -> CifError:
-    """How the run ends after a program that fails."""
+def reason_of(said: Sequence[str], status: int, program: str) -> str:
+    """Why a program fails: the first line that it says."""
     reason = next(iter(said), f"it ended with status {status}, and doesn't say why")
-    text = reason if reason.startswith((f"{program}: ", "cif: ")) else f"{program}: {reason}"
+    is_named = reason.startswith((f"{program}: ", f"{program}:<stdin>:", "cif: "))
+    return reason if is_named else f"{program}: {reason}"
+
+
+def ending(status: int, said: Sequence[str], program: str) -> CifError:
+    """How the run ends after a program of this package that fails."""
     kinds = {USAGE: Misused, REFUSED: Refused}
-    return kinds.get(status, Failed)(text)
+    return kinds.get(status, Failed)(reason_of(said, status, program))
 
 
 def run_program(
@@ -73,7 +78,7 @@ def load_postgresql(words: Sequence[str], connection: str, folder: Path) -> None
             loader.kill()
             raise
     if loader.returncode:
-        raise ending(4, said, PSQL)
+        raise Failed(reason_of(said, loader.returncode, "psql"))
     if writer.returncode:
         raise ending(
             writer.returncode, writer.stderr.decode(errors="replace").splitlines(), "cif-sql"

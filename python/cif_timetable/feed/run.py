@@ -10,12 +10,13 @@ from pathlib import Path
 from .._process import Cif
 from .._progress import Progress
 from .._running import description_of, printable
-from ..errors import FAILED, SUCCESS, CifError, Failed, Refused
+from ..errors import FAILED, SUCCESS, CifError, Damaged, Failed, Refused
 from ..sql.database import version_of
 from . import clock
 from .chain import Plan, best_plan
-from .credentials import Credentials
+from .credentials import WHERE, Credentials
 from .header import Header
+from .net import Denied, Unreachable
 from .outputs import Bad, Maker, digest_of, first_line
 from .raw import Raw, RawFiles
 from .settings import Settings
@@ -29,6 +30,21 @@ WEEK = 7
 # What `cif prepare` says of the settings, and not of an extract.
 OF_SETTINGS = ("BankHoliday", "BadHoliday")
 HOLIDAYS_ADVICE = "name the dates of this code in feed.toml (cif-feed --holidays shows them)"
+
+
+def advice_of(problem: CifError) -> str:
+    """What helps, if that isn't plain."""
+    if isinstance(problem, Denied):
+        return f"check {WHERE}"
+    if isinstance(problem, Bad):
+        return "a newer full extract heals this"
+    if isinstance(problem, (Damaged, Late, Unreachable)):
+        return "the next run tries again"
+    return ""
+
+
+class Late(Failed):
+    """The newest extract is older than it should be."""
 
 
 class Run:
@@ -122,7 +138,7 @@ class Run:
         if beyond is None or not self.is_good(beyond):
             return None
         follows = f"{beyond} follows {beyond.header.last_reference or 'nothing'}"
-        return f"{follows}, and an update between {plan.end} and that is missing: a full extract heals this"
+        return f"{follows}, and what is between {plan.end} and that is missing: a full extract heals this"
 
     # ---- doing it
 
@@ -210,7 +226,7 @@ class Run:
                 return
             late = f"nothing newer than {self.state} could be had, which is {age} days old"
         absent = ", ".join(self.source.absent)
-        self.problems.append(Failed(f"{late} (not there: {absent})" if absent else late))
+        self.problems.append(Late(f"{late} (not there: {absent})" if absent else late))
 
     def finish(self) -> None:
         """Removes what isn't needed any more."""
@@ -219,8 +235,11 @@ class Run:
         self.versions.prune(today - timedelta(days=self.settings.keep_days))
         shutil.rmtree(self.work, ignore_errors=True)
 
-    def stays(self) -> str:
-        return f"{self.state} stays" if self.state else "there is no extract yet"
+    def outcome(self) -> list[str]:
+        """What is said of problems that kept everything as it was: so, and what helps."""
+        stays = f"{self.state} stays" if self.state else "there is no extract yet"
+        advice = advice_of(self.problems[0])
+        return [stays, advice] if advice else [stays]
 
 
 def write_log(folder: Path, text: str) -> None:
@@ -258,7 +277,7 @@ def bring_up_to_date(
         run.finish()
         lines = [*said, *map(first_line, run.problems)]
         if run.problems and run.state == before:
-            lines.append(run.stays())
+            lines += run.outcome()
         status = run.problems[0].status if run.problems else SUCCESS
         took = f"{run.source.fetched} fetched, {time.monotonic() - started:.0f} s"
         outcome = "failed: " if status else ""
