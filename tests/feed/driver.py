@@ -15,11 +15,11 @@ def words_of(now: datetime, *words: str) -> list[str]:
 
 
 if __name__ == "__main__":
-    now, sys.path[0] = datetime.fromisoformat(sys.argv[1]).astimezone(timezone.utc), sys.argv[2]
+    moment, sys.path[0] = datetime.fromisoformat(sys.argv[1]).astimezone(timezone.utc), sys.argv[2]
     from cif_timetable.feed import clock, net
     from cif_timetable.feed.command_line import main
 
-    clock.now = lambda: now
-    clock.today = now.date
+    clock.now = lambda: moment
+    clock.today = moment.date
     net.PAUSES = (0.001, 0.002, 0.004)
     sys.exit(main(sys.argv[3:]))

@@ -9,7 +9,7 @@ import tempfile
 import unittest
 from contextlib import redirect_stderr
 from dataclasses import dataclass
-from datetime import datetime, timezone
+from datetime import date, datetime, timezone
 from pathlib import Path
 from unittest import mock
 
@@ -50,7 +50,7 @@ class InFolder(unittest.TestCase):
         self.now = datetime(2026, 12, 5, 7, tzinfo=timezone.utc)
         for target, name, value in (
             (clock, "now", lambda: self.now),
-            (clock, "today", lambda: self.now.date()),
+            (clock, "today", self.today),
             (net, "PAUSES", (0.001, 0.002, 0.004)),
             (net, "SILENCE", 2.0),
             (versions, "LOCK_WAIT", 0.1),
@@ -59,6 +59,9 @@ class InFolder(unittest.TestCase):
             patched = mock.patch.object(target, name, value)
             patched.start()
             self.addCleanup(patched.stop)
+
+    def today(self) -> date:
+        return self.now.date()
 
     def at(self, day: int, month: int = 12, hour: int = 7) -> None:
         """Sets the clock."""
@@ -115,7 +118,7 @@ class InFolder(unittest.TestCase):
         return sorted(path.name for path in (self.folder / "versions").iterdir())
 
     def raw_names(self) -> list[str]:
-        return sorted(path.name for path in (self.folder / "raw").iterdir())
+        return sorted(path.name for path in self.folder.glob("raw/*"))
 
     # ---- assertions
 

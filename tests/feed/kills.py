@@ -117,6 +117,10 @@ class Scenario:
         self.name = name
         self.before = base / f"{name}-before"
         self.before.mkdir()
+        # what `current` has before and after the run, and all files after the next one
+        self.old: Files | None = None
+        self.new: Files | None = None
+        self.wanted: Files = {}
         line = 'database = "timetable.db"' if database else ""
         settings = SETTINGS.format(address=server.address, database=line)
         (self.before / "feed.toml").write_text(settings, encoding="utf-8")

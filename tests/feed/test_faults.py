@@ -47,11 +47,11 @@ class Connections(OneServer):
         for status in 503, 429, 500:
             with self.subTest(status):
                 self.server.put("/full.gz", *[Answer(b"", status)] * 2, packed(FULL))
-                self.setUpFolder()
+                self.forget()
                 self.assert_silent(self.run_feed())
                 self.assert_stays()
 
-    def setUpFolder(self) -> None:
+    def forget(self) -> None:
         """Forgets what was fetched."""
         for name in "current", "feed.log":
             (self.folder / name).unlink(missing_ok=True)
@@ -81,13 +81,24 @@ class Connections(OneServer):
             with self.subTest(has_length=has_length):
                 cut = Answer(body, cut=len(body) // 2, has_length=has_length)
                 self.server.put("/full.gz", cut, cut, body)
-                self.setUpFolder()
+                self.forget()
                 self.assert_silent(self.run_feed())
                 self.assert_stays()
                 self.server.put("/full.gz", cut)
-                self.setUpFolder()
+                self.forget()
                 self.assert_says(self.run_feed(), 4, "full.gz of 127.0.0.1")
                 self.assertFalse(self.current.exists())
+
+    def test_plain_extract_that_is_cut_early(self) -> None:
+        """An extract that isn't compressed, of an announced length."""
+        cut = Answer(FULL, cut=81 * 100)
+        self.server.put("/full.gz", cut, FULL)
+        self.assert_silent(self.run_feed())
+        self.assert_stays()
+        self.forget()
+        self.server.put("/full.gz", cut)
+        self.assert_says(self.run_feed(), 4, "connection broke after 8100 of", "tries again")
+        self.assertEqual([], self.raw_names())
 
     def test_plain_extract_that_is_cut(self) -> None:
         """Without compression and without a length nothing but `cif` can tell."""
@@ -211,6 +222,24 @@ class Files(OneServer):
         self.assertIn("the current extract", done.said)
         self.assertEqual(extracts.by_hand(self.base, FULL, [SAT]), self.state())
 
+    def test_state_that_can_not_be_made_again(self) -> None:
+        """An older extract doesn't take its place."""
+        self.start()
+        self.server.put("/sat.gz", packed(SAT))
+        self.assert_silent(self.run_feed())
+        names = self.version_names()
+        for path in self.folder.glob("raw/*update*"):
+            path.unlink()
+        self.server.put("/sat.gz", Answer(b"", 404))
+        self.server.put("/sun.gz", packed(SUN))
+        state = self.current / "full.cif"
+        state.write_bytes(state.read_bytes().replace(b"BSN", b"BSQ", 1))
+        self.at(7)
+        self.assert_says(
+            self.run_feed(), 3, "the current extract", "DFROC1T of 2026-12-05", "stays"
+        )
+        self.assertEqual(names, self.version_names())
+
     def test_server_without_tags(self) -> None:
         """Files come again and again; nothing is made of them twice."""
         self.server.put("/full.gz", Answer(packed(FULL), is_tagged=False))
@@ -218,6 +247,25 @@ class Files(OneServer):
         self.assert_silent(self.run_feed())
         self.assert_silent(self.run_feed())
         self.assertEqual(1, len(self.version_names()))
+
+    def test_two_chains_of_references(self) -> None:
+        """A full extract with references of its own, and updates day by day; a day isn't skipped."""
+        update_line = f'update = "{self.server.address}/{{weekday}}.gz"'
+        self.settings("url", f"{self.server.address}/full.gz", update_line, "one_chain = false")
+        self.server.put("/full.gz", packed(FULL.replace(b"DFROC1S", b"DFROC9K", 1)))
+        self.at(5)
+        self.assert_silent(self.run_feed())
+        self.server.put("/sat.gz", packed(SAT))
+        self.at(6)
+        self.assert_silent(self.run_feed())
+        self.assertEqual(extracts.by_hand(self.base, FULL, [SAT]), self.state())
+        self.assertEqual(1, self.facts()["waived"])
+        self.server.put("/mon.gz", packed(extracts.MON))
+        self.at(8)
+        self.assert_says(self.run_feed(), 4, "DFROC1V", "follows DFROC1U", "DFROC1T", "stays")
+        self.server.put("/sun.gz", packed(SUN))
+        self.assert_silent(self.run_feed())
+        self.assertEqual("DFROC1V", self.reference())
 
     def test_references_of_another_feed(self) -> None:
         self.start()

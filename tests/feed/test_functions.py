@@ -13,7 +13,7 @@ from unittest import mock
 
 from cif_timetable.errors import CifError, Misused, Refused
 from cif_timetable.feed import credentials, net
-from cif_timetable.feed.chain import best_plan, chain_from
+from cif_timetable.feed.chain import State, best_plan, chain_from
 from cif_timetable.feed.header import Header, read_header
 from cif_timetable.feed.holidays import holidays_of, read_list, text_of
 from cif_timetable.feed.raw import Raw
@@ -45,7 +45,7 @@ class Chains(unittest.TestCase):
         self.assertEqual(["T", "U", "V"], references(found))
 
     def test_gap(self) -> None:
-        plan = best_plan(self.STATE, [], [self.SAT, self.MON])
+        plan = best_plan(State(self.STATE), [], [self.SAT, self.MON])
         assert plan
         self.assertEqual(
             (["T"], self.MON), (references(list(plan.updates)), plan.next_unreached([self.MON]))
@@ -67,11 +67,11 @@ class Chains(unittest.TestCase):
     def test_state_before_full(self) -> None:
         """If both come to the same, the state is taken; if the full one comes further, that is."""
         same = raw(4, "S", is_full=True)
-        plan = best_plan(self.STATE, [same], [self.SAT])
+        plan = best_plan(State(self.STATE), [same], [self.SAT])
         assert plan
         self.assertIsNone(plan.full)
         later = raw(6, "U", is_full=True)
-        plan = best_plan(self.STATE, [same, later], [self.SAT, self.MON])
+        plan = best_plan(State(self.STATE), [same, later], [self.SAT, self.MON])
         assert plan
         self.assertEqual((later, ["V"]), (plan.full, references(list(plan.updates))))
 
@@ -83,9 +83,35 @@ class Chains(unittest.TestCase):
         self.assertEqual((newer, ["T"]), (plan.full, references(list(plan.updates))))
 
     def test_bad_files(self) -> None:
-        plan = best_plan(self.STATE, [], [self.SAT, self.SUN], lambda found: found is not self.SUN)
+        plan = best_plan(
+            State(self.STATE), [], [self.SAT, self.SUN], lambda found: found is not self.SUN
+        )
         assert plan
         self.assertEqual(["T"], references(list(plan.updates)))
+
+    def test_by_date(self) -> None:
+        """Where full extracts have references of their own, the update of the next night is the first
+        one after them, and no other night's."""
+        full = raw(4, "F1", is_full=True)
+        for updates, want in (
+            ([self.SAT, self.SUN], ["T", "U"]),
+            ([raw(4, "S", "R"), self.SUN], []),
+            ([raw(3, "R", "Q"), self.SAT], ["T"]),
+        ):
+            bases: list[tuple[State | None, list[Raw]]]
+            bases = [(State(full.header, True), []), (None, [full])]
+            for state, fulls in bases:
+                plan = best_plan(state, fulls, updates, one_chain=False)
+                assert plan
+                self.assertEqual(
+                    (want, bool(want)), (references(list(plan.updates)), plan.begins_by_date)
+                )
+                plan = best_plan(state, fulls, updates)
+                assert plan
+                self.assertEqual([], list(plan.updates))
+        updated = best_plan(State(full.header, False), [], [self.SAT], one_chain=False)
+        assert updated
+        self.assertEqual([], list(updated.updates))
 
 
 class Headers(unittest.TestCase):

@@ -7,6 +7,9 @@ import sqlite3
 import zipfile
 from datetime import date
 
+from cif_timetable.feed.settings import read_settings
+from cif_timetable.feed.status import json_of, status_of, text_of
+
 from . import extracts
 from .extracts import FULL, MON, SAT, SUN, as_full, by_hand, packed, padded, update
 from .folders import PASSWORD, USER, WithServer
@@ -362,9 +365,6 @@ class Made(NetworkRail):
         self.assertIn("failed: ", str(found["last_run"]))
 
     def run_status(self) -> tuple[int, dict[str, object]]:
-        from cif_timetable.feed.settings import read_settings
-        from cif_timetable.feed.status import json_of, status_of, text_of
-
         found = status_of(read_settings(self.folder))
         self.assertIn("missing", text_of(found))
         return (1 if found["missing"] else 0), json.loads(json_of(found))

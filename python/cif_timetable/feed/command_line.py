@@ -14,8 +14,7 @@ from .._progress import Progress
 from .._running import printable, run, standard_output
 from ..errors import SUCCESS, CifError, Misused
 from .credentials import take_from_environment
-from .holidays import holidays_of
-from .outputs import listed_holidays
+from .holidays import holidays_of, listed_holidays
 from .raw import RawFiles
 from .run import bring_up_to_date, write_log
 from .settings import SOURCES, read_settings
@@ -103,7 +102,7 @@ def print_holidays(asked: argparse.Namespace) -> int:
     warnings: list[str] = []
     with tempfile.TemporaryDirectory(prefix="cif-feed-") as work:
         raw = RawFiles(Path(work, "raw"), Path(work))
-        listed = listed_holidays(settings, raw, warnings)
+        listed = listed_holidays(settings.holidays, raw, warnings)
     print_text("".join(f"{holiday}\n" for holiday in holidays_of(settings.holidays, listed)))
     return SUCCESS
 

@@ -2,12 +2,15 @@
 from __future__ import annotations
 
 import json
+import os
 from collections.abc import Iterable, Iterator, Sequence
 from dataclasses import dataclass
 from datetime import date
 from pathlib import Path
 
-from ..errors import Refused
+from ..errors import CifError, Failed, Refused
+from .net import Address, Client
+from .raw import RawFiles
 from .settings import Holidays
 
 # The part of the list for X. Those of E and G are local ones, which it doesn't have.
@@ -84,3 +87,32 @@ def text_of(asked: Holidays, found: Sequence[Holiday]) -> str:
     }
     lines += [code for code, is_wanted in wanted.items() if is_wanted and code not in named]
     return "".join(f"{line}\n" for line in lines)
+
+
+def listed_holidays(
+    asked: Holidays, raw: RawFiles, warnings: list[str]
+) -> list[tuple[date, str, bool]]:
+    """The holidays of the government's list, which is fetched, or kept from an earlier run."""
+    if asked.list:
+        return list(read_list(asked.list, str(asked.list)))
+    if not asked.address:
+        return []
+    raw.folder.mkdir(exist_ok=True)
+    kept, new = raw.folder / "bank-holidays.json", raw.work / "bank-holidays.json"
+    address = Address(asked.address, "the list of bank holidays")
+    try:
+        known = Client().fetch(address, new, raw.known("bank-holidays"))
+        if known:
+            found = list(read_list(new, address.label))
+            os.replace(new, kept)
+            raw.remember("bank-holidays", kept.name, known)
+            return found
+    except CifError as problem:
+        if not kept.exists():
+            raise
+        warnings.append(f"{problem}: that of an earlier run is taken")
+    finally:
+        new.unlink(missing_ok=True)
+    if not kept.exists():
+        raise Failed(f"{address.label}: it isn't there")
+    return list(read_list(kept, str(kept)))

@@ -1,44 +1,32 @@
-"""What a version has: the extract with its updates, and the outputs that are made of it."""
+"""The outputs that are made of a full extract."""
 from __future__ import annotations
 
 import hashlib
 import json
 import os
 import re
-import shutil
-import zipfile
-from collections.abc import Callable, Sequence
-from contextlib import suppress
+from collections.abc import Sequence
 from dataclasses import asdict
-from datetime import date, timedelta
+from datetime import timedelta
 from pathlib import Path
-from typing import IO
 
 from .._extract import yymmdd
-from .._files import BLOCK
 from .._process import Cif
 from .._progress import Progress
-from ..errors import CifError, Failed, Refused
+from ..errors import CifError, Refused
 from . import clock
-from .chain import Plan
-from .header import Header, header_of
-from .net import Address, Client
-from .holidays import holidays_of, read_list, text_of
+from .full_extract import first_line, write_answer
+from .header import Header
+from .holidays import holidays_of, listed_holidays, text_of
 from .programs import load_postgresql, run_program
-from .raw import Raw, RawFiles, opened_zip_of
+from .raw import RawFiles
 from .settings import FACTS, HOLIDAYS, LINKS, STATE, STATIONS, Settings
 from .versions import Facts, Version
-from .whole import new_file, write_whole
+from .whole import link_or_copy, write_whole
 
-# What `cif` says of a line that is waived, of what clashes, and of holidays that don't reach.
-WAIVED = re.compile(r"cif: line \d+: \w+ \(waived\)")
+# What `cif` says of what clashes, and of holidays that don't reach.
 DROPPED = "cif: dropped: "
 REACH = re.compile(r"cif: (holidays of [XEG]: .*)")
-# The members of RDG's zip that are read beside the extract, and those that aren't: trains that other
-# operators run, in the extract's own layout.
-BESIDE = {".msn": STATIONS, ".alf": LINKS}
-NOT_READ = ".ztr"
-SCHEDULE = b"BS"
 # What says of a database in PostgreSQL which extract it was last given.
 POSTGRESQL = "postgresql"
 
@@ -47,7 +35,7 @@ def digest_of(settings: Settings, version: str) -> str:
     """Tells the settings that outputs depend on, and what is in the files that they name."""
     digest = hashlib.sha256(version.encode())
     kept = asdict(settings)
-    for name in ("folder", "source", "address", "update", "keep_days", "late_days"):
+    for name in ("folder", "source", "address", "update", "keep_days", "late_days", "one_chain"):
         del kept[name]
     digest.update(json.dumps(kept, default=str, sort_keys=True).encode())
     for path in settings.paths():
@@ -55,89 +43,19 @@ def digest_of(settings: Settings, version: str) -> str:
     return digest.hexdigest()
 
 
-def link_or_copy(source: Path, target: Path) -> None:
-    """A second name of a file that nobody changes, or a copy of it."""
-    try:
-        os.link(source, target)
-    except OSError:
-        with open(source, "rb") as file, new_file(target) as copy:
-            shutil.copyfileobj(file, copy, BLOCK)
-
-
 class Maker:
-    """Makes the files of a version."""
+    """Makes the outputs of a version."""
 
-    def __init__(self, settings: Settings, cif: Cif, raw: RawFiles, progress: Progress) -> None:
+    def __init__(
+        self, settings: Settings, cif: Cif, raw: RawFiles, facts: Facts, progress: Progress
+    ) -> None:
         self.settings = settings
         self.cif = cif
         self.raw = raw
         self.progress = progress
-        self.facts = Facts()
+        self.facts = facts
         # what the user should know though the outputs are made
         self.warnings: list[str] = []
-
-    # ---- the extract
-
-    def write_extract(self, plan: Plan, state: Version | None, path: Path) -> Header:
-        """Writes the full extract that the plan comes to. If `cif` refuses a file of the plan, it ends
-        with `Bad`, which names it."""
-        target = path / STATE
-        base = self.raw.unpacked(plan.full) if plan.full else state.extract if state else None
-        assert base is not None
-        self.facts.base = plan.full.path.name if plan.full else str(plan.base)
-        self.facts.updates = [raw.path.name for raw in plan.updates]
-        if plan.updates:
-            updates = {str(self.raw.unpacked(raw)): raw for raw in plan.updates}
-            words = ["update", "--lenient", "--in-sequence", "--", str(base), *updates]
-            try:
-                self.write_by(words, target, self.count_waived)
-            except CifError as problem:
-                raise self.of_file(problem, plan, updates) from None
-        else:
-            link_or_copy(base, target)
-        self.keep_beside(plan, state, path)
-        return header_of(target, str(target))
-
-    def of_file(self, problem: CifError, plan: Plan, updates: dict[str, Raw]) -> CifError:
-        """A refusal with the file of which it is."""
-        if problem.status != Refused.status:
-            return problem
-        found = re.search(r"^  in (?:UPDATE|FULL) \((.*)\)$", str(problem), re.MULTILINE)
-        raw = updates.get(found[1]) if found else None
-        return Bad(raw or plan.full, first_line(problem))
-
-    def count_waived(self, line: str) -> None:
-        if WAIVED.fullmatch(line):
-            self.facts.waived += 1
-
-    def write_by(self, words: Sequence[str], path: Path, tell: Callable[[str], None]) -> None:
-        """Writes what a call of `cif` writes."""
-        with new_file(path) as file, self.cif.output(words, tell=tell) as lines:
-            copy(lines, file)
-
-    def keep_beside(self, plan: Plan, state: Version | None, path: Path) -> None:
-        """Keeps the stations and links that came with the full extract."""
-        if plan.full is None:
-            for name in BESIDE.values():
-                if state and (state.path / name).exists():
-                    link_or_copy(state.path / name, path / name)
-            self.facts.not_read = state.facts.not_read if state else {}
-        elif plan.full.path.suffix == ".zip":
-            with opened_zip_of(plan.full.path, str(plan.full)) as archive:
-                self.keep_members(archive, path)
-
-    def keep_members(self, archive: zipfile.ZipFile, path: Path) -> None:
-        for member in sorted(archive.namelist()):
-            suffix = Path(member).suffix.lower()
-            if suffix in BESIDE:
-                with archive.open(member) as source, new_file(path / BESIDE[suffix]) as target:
-                    copy(source, target)
-            elif suffix == NOT_READ:
-                with archive.open(member) as source:
-                    count = sum(line.startswith(SCHEDULE) for line in source)
-                self.facts.not_read[Path(member).name] = count
-
-    # ---- what is made of it
 
     def write_holidays(self, path: Path) -> None:
         """Writes the holidays that all programs of this run read, if there are any."""
@@ -145,7 +63,7 @@ class Maker:
         if asked.file:
             write_whole(path / HOLIDAYS, asked.file.read_text(encoding="utf-8", errors="replace"))
         elif not asked.is_empty():
-            found = holidays_of(asked, listed_holidays(self.settings, self.raw, self.warnings))
+            found = holidays_of(asked, listed_holidays(asked, self.raw, self.warnings))
             write_whole(path / HOLIDAYS, text_of(asked, found))
 
     def write_prepared(self, path: Path) -> Path:
@@ -153,7 +71,7 @@ class Maker:
         prepared = self.raw.work / "prepared.cif"
         holidays = self.preparing(path)
         words = ["prepare", "--drop-clashes", *holidays, "--", str(path / STATE)]
-        self.write_by(words, prepared, self.hear_prepare)
+        write_answer(self.cif, words, prepared, self.hear_prepare)
         return prepared
 
     def hear_prepare(self, line: str) -> None:
@@ -176,7 +94,7 @@ class Maker:
         is_inside = header.first_date < first <= header.last_date
         return ["--from", yymmdd(first)] if is_inside else []
 
-    def names(self, *, sql: bool = False) -> list[str]:
+    def names(self) -> list[str]:
         """The words for the names of places and operators: the user's first, which count."""
         files, beside = self.settings.files, self.beside()
         words = [f"--places={path}" for path in (files.places, beside.get("msn-places")) if path]
@@ -232,10 +150,9 @@ class Maker:
     def write_cut(self, prepared: Path, window: Sequence[str], path: Path) -> None:
         """The prepared extract; from a later date on it is a canonical one."""
         if window:
-            self.write_by(["normalise", *window, "--", str(prepared)], path, lambda line: None)
+            write_answer(self.cif, ["normalise", *window, "--", str(prepared)], path)
         else:
-            with open(prepared, "rb") as source, new_file(path) as target:
-                copy(source, target)
+            link_or_copy(prepared, path)
 
     def gtfs_words(self) -> list[str]:
         files, beside = self.settings.files, self.beside()
@@ -283,52 +200,3 @@ class Maker:
         self.facts.outputs = [name for name in outputs if (path / name).exists()]
         self.facts.settings = digest
         self.facts.write(path / FACTS)
-
-
-class Bad(Refused):
-    """`cif` refuses a file that was fetched, or the extract of the current version where the file is
-    None."""
-
-    def __init__(self, raw: Raw | None, reason: str) -> None:
-        name = str(raw) if raw else "the current extract"
-        super().__init__(f"{name}: {reason}")
-        self.raw = raw
-
-
-def first_line(problem: CifError) -> str:
-    return str(problem).partition("\n")[0]
-
-
-def copy(source: IO[bytes], target: IO[bytes]) -> None:
-    shutil.copyfileobj(source, target, BLOCK)
-
-
-def listed_holidays(
-    settings: Settings, raw: RawFiles, warnings: list[str]
-) -> list[tuple[date, str, bool]]:
-    """The holidays of the government's list, which is fetched, or kept from an earlier run."""
-    asked = settings.holidays
-    if asked.list:
-        return list(read_list(asked.list, str(asked.list)))
-    if not asked.address:
-        return []
-    raw.folder.mkdir(exist_ok=True)
-    kept, new = raw.folder / "bank-holidays.json", raw.work / "bank-holidays.json"
-    address = Address(asked.address, "the list of bank holidays")
-    try:
-        known = Client().fetch(address, new, raw.known("bank-holidays"))
-        if known:
-            found = list(read_list(new, address.label))
-            os.replace(new, kept)
-            raw.remember("bank-holidays", kept.name, known)
-            return found
-    except CifError as problem:
-        if not kept.exists():
-            raise
-        warnings.append(f"{problem}: that of an earlier run is taken")
-    finally:
-        with suppress(FileNotFoundError):
-            new.unlink()
-    if not kept.exists():
-        raise Failed(f"{address.label}: it isn't there")
-    return list(read_list(kept, str(kept)))

@@ -13,15 +13,16 @@ from .._running import description_of, printable
 from ..errors import FAILED, SUCCESS, CifError, Damaged, Failed, Refused
 from ..sql.database import version_of
 from . import clock
-from .chain import Plan, best_plan
+from .chain import Plan, State, best_plan
 from .credentials import WHERE, Credentials
+from .full_extract import Bad, FullExtract, first_line, is_plain
 from .header import Header
 from .net import Denied, Unreachable
-from .outputs import Bad, Maker, digest_of, first_line
+from .outputs import Maker, digest_of
 from .raw import Raw, RawFiles
 from .settings import Settings
 from .sources import Source, source_of
-from .versions import Version, Versions, only_run
+from .versions import Facts, Version, Versions, only_run
 
 LOG = "feed.log"
 WORK = ".work"
@@ -41,6 +42,10 @@ def advice_of(problem: CifError) -> str:
     if isinstance(problem, (Damaged, Late, Unreachable)):
         return "the next run tries again"
     return ""
+
+
+def state_of(version: Version) -> State:
+    return State(version.header, is_plain(version))
 
 
 class Late(Failed):
@@ -87,9 +92,15 @@ class Run:
     def is_good(self, raw: Raw) -> bool:
         return raw.path not in self.bad
 
+    def plan_of(self, fulls: list[Raw], with_state: bool) -> Plan | None:
+        state = state_of(self.version) if self.version and with_state else None
+        updates, one_chain = self.raw.updates(), self.settings.one_chain
+        return best_plan(state, fulls, updates, self.is_good, one_chain)
+
     def best(self) -> Plan | None:
-        usable = self.state if self.version and self.version.extract not in self.bad else None
-        plan = best_plan(usable, self.raw.fulls(), self.raw.updates(), self.is_good)
+        """The best plan, unless that comes to something older than the current version."""
+        usable = self.version and self.version.extract not in self.bad
+        plan = self.plan_of(self.raw.fulls(), with_state=bool(usable))
         if plan and self.state and plan.end.made < self.state.made:
             return None
         return plan
@@ -120,7 +131,7 @@ class Run:
         that they can't be."""
         if self.state is None:
             return None
-        own = best_plan(self.state, [], self.raw.updates(), self.is_good)
+        own = self.plan_of([], with_state=True)
         assert own is not None
         beyond = own.next_unreached(self.raw.updates())
         if beyond is None:
@@ -146,12 +157,13 @@ class Run:
         """Makes a version, and makes it the current one."""
         path = self.versions.new(clock.now())
         try:
-            maker = Maker(self.settings, self.cif, self.raw, self.progress)
+            facts = Facts()
+            maker = Maker(self.settings, self.cif, self.raw, facts, self.progress)
             self.progress.show("applying updates")
-            header = maker.write_extract(plan, self.version, path)
+            header = FullExtract(self.cif, self.raw, facts).write(plan, self.version, path)
             maker.write_holidays(path)
             self.make_outputs(maker, plan, header, path)
-            maker.facts.fetched_at = clock.now().isoformat()
+            facts.fetched_at = clock.now().isoformat()
             maker.write_facts(path, digest)
             maker.load_postgresql(header, path)
             self.versions.commit(path)
@@ -159,7 +171,6 @@ class Run:
             if self.versions.current_name() != path.name:
                 shutil.rmtree(path, ignore_errors=True)
             raise
-        facts = maker.facts
         self.notes.append(f"made {header} of {' and '.join([facts.base, *facts.updates])}")
         self.notes += [f"waived {facts.waived}, dropped {facts.dropped}", *facts.said]
         self.notes += [

@@ -93,6 +93,7 @@ class Settings:
     keep_days: int
     past_days: int | None
     late_days: int
+    one_chain: bool = True
     outputs: Outputs = field(default_factory=Outputs)
     files: UserFiles = field(default_factory=UserFiles)
 
@@ -132,11 +133,13 @@ class Table:
             self.wrong(key, f"has to be a number of days from {least} to {MOST_DAYS}")
         return value
 
-    def flag(self, key: str) -> bool:
+    def flag(self, key: str, default: bool = False) -> bool:
         value = self.take(key)
-        if value is not None and not isinstance(value, bool):
+        if value is None:
+            return default
+        if not isinstance(value, bool):
             self.wrong(key, "has to be true or false")
-        return bool(value)
+        return value
 
     def dates(self, key: str) -> tuple[date, ...] | None:
         """Dates such as 2026-12-28, perhaps in quotation marks."""
@@ -291,6 +294,7 @@ def read_settings(folder: Path) -> Settings:
         14 if keep_days is None else keep_days,
         table.number("past_days", 0),
         late_days if late_days is not None else LATE_WITH_UPDATES if with_updates else LATE_WITHOUT,
+        table.flag("one_chain", True),
         read_outputs(table.table("outputs")),
         read_files(table.table("gtfs")),
     )

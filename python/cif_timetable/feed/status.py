@@ -9,7 +9,7 @@ from . import clock
 from .chain import best_plan
 from .outputs import POSTGRESQL
 from .raw import RawFiles
-from .run import LOG, WORK
+from .run import LOG, WORK, state_of
 from .settings import Settings
 from .versions import Version, Versions
 
@@ -30,7 +30,7 @@ def missing_of(settings: Settings, version: Version | None) -> list[str]:
         return ["nothing was fetched yet"]
     raw = RawFiles(settings.folder / "raw", settings.folder / WORK)
     found = []
-    plan = best_plan(version.header, [], raw.updates())
+    plan = best_plan(state_of(version), [], raw.updates(), one_chain=settings.one_chain)
     beyond = plan.next_unreached(raw.updates()) if plan else None
     if plan and beyond:
         found.append(f"an update between {plan.end} and {beyond.header}")

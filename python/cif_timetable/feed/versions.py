@@ -56,6 +56,8 @@ class Facts:
     # the file, or the extract of the version before, with which the run began, and the updates
     base: str = ""
     updates: list[str] = field(default_factory=list)
+    # whether the extract is anything else than a full one as it was fetched
+    is_updated: bool = True
     fetched_at: str = ""
     waived: int = 0
     dropped: int = 0

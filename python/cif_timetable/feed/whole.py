@@ -2,10 +2,11 @@
 from __future__ import annotations
 
 import os
+import shutil
 from pathlib import Path
 from typing import IO
 
-from .._files import reporting, synchronise
+from .._files import BLOCK, reporting, synchronise
 
 
 def new_file(path: Path) -> IO[bytes]:
@@ -21,3 +22,18 @@ def write_whole(path: Path, text: str) -> None:
     synchronise(new)
     os.replace(new, path)
     synchronise(path.parent)
+
+
+def copy_to(source: IO[bytes], path: Path) -> None:
+    """Writes all that a source gives."""
+    with new_file(path) as target:
+        shutil.copyfileobj(source, target, BLOCK)
+
+
+def link_or_copy(source: Path, target: Path) -> None:
+    """A second name of a file that nobody changes, or a copy of it."""
+    try:
+        os.link(source, target)
+    except OSError:
+        with open(source, "rb") as file:
+            copy_to(file, target)
