@@ -122,6 +122,7 @@ Description: work out what runs on each date of a CIF timetable extract
  needs no further rules. It also lists how two extracts differ, what runs on
  a day, and why a train runs or doesn't. cif-gtfs makes a GTFS feed of an
  extract, cif-sql a database, and cif-report a page of what changed between two.
+ cif-feed does all of this every night, from a published feed.
 END
 deb=cif_${version}_amd64.deb
 SOURCE_DATE_EPOCH=$time dpkg-deb --root-owner-group -Zxz --build "$root" "$work/$deb" > /dev/null

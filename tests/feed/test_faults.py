@@ -222,6 +222,23 @@ class Files(OneServer):
         self.assertIn("the current extract", done.said)
         self.assertEqual(extracts.by_hand(self.base, FULL, [SAT]), self.state())
 
+    def test_kept_file_that_is_damaged(self) -> None:
+        """A fetched file is damaged on the disk before it is needed again: it is fetched again."""
+        self.server.put("/full.gz", packed(FULL))
+        self.server.put("/sun.gz", packed(SUN))
+        self.at(7)
+        self.run_feed()
+        [kept] = self.folder.glob("raw/*DFROC1U*")
+        content = kept.read_bytes()
+        kept.write_bytes(content[:-8] + bytes(8))
+        self.server.put("/sat.gz", packed(SAT))
+        self.at(7, hour=9)
+        done = self.run_feed()
+        self.assertIn("raw/20261206-1931-DFROC1U-update.cif.gz", done.said)
+        self.assertIn("damaged on the disk", done.said)
+        self.assert_silent(self.run_feed())
+        self.assertEqual(extracts.by_hand(self.base, FULL, [SAT, SUN]), self.state())
+
     def test_state_that_can_not_be_made_again(self) -> None:
         """An older extract doesn't take its place."""
         self.start()
@@ -410,6 +427,29 @@ class Locks(OneServer):
         time.sleep(0.5)
         self.assertEqual(1, len(self.version_names()))
         self.assertEqual(FULL, self.state())
+
+    def test_interrupted(self) -> None:
+        """As by systemd: it says so, and leaves nothing that is unfinished."""
+        self.settings("url", f"{self.server.address}/full.gz", outputs='database = "timetable.db"')
+        self.server.put("/full.gz", packed(FULL))
+        program = self.base / "cif"
+        program.write_text(
+            f'#!/bin/sh\ncase " $* " in *" calls "*) echo > "{self.base}/waits"; sleep 0.3 ;; esac\n'
+            f'exec {extracts.CIF} "$@"\n',
+            encoding="utf-8",
+        )
+        program.chmod(0o755)
+        words = words_of(self.now, "--cif", str(program), str(self.folder))
+        with subprocess.Popen(words, stderr=subprocess.PIPE, text=True) as process:
+            while not (self.base / "waits").exists():
+                time.sleep(0.01)
+            process.terminate()
+            said = process.communicate()[1]
+        self.assertEqual(4, process.returncode)
+        self.assertIn("interrupted by SIGTERM; there is no extract yet", said)
+        self.assertEqual([], self.version_names())
+        self.assertFalse((self.folder / ".work").exists())
+        self.assert_silent(self.run_feed())
 
     def test_status_needs_no_lock(self) -> None:
         self.start()

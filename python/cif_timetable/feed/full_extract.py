@@ -7,7 +7,7 @@ from collections.abc import Callable, Sequence
 from pathlib import Path
 
 from .._process import Cif, ignored
-from ..errors import CifError, Refused
+from ..errors import CifError, Damaged, Refused
 from .chain import Plan
 from .header import Header, header_of
 from .raw import Raw, RawFiles, opened_zip_of
@@ -59,7 +59,7 @@ class FullExtract:
         """Writes it into the folder of a version, with what came beside it. If `cif` refuses a file of
         the plan, it ends with `Bad`, which names it."""
         target = path / STATE
-        base = self.raw.unpacked(plan.full) if plan.full else state.extract if state else None
+        base = self.unpacked(plan.full) if plan.full else state.extract if state else None
         assert base is not None
         self.facts.base = plan.full.path.name if plan.full else str(plan.base)
         self.facts.updates = [raw.path.name for raw in plan.updates]
@@ -77,7 +77,7 @@ class FullExtract:
     def apply(self, plan: Plan, base: Path, target: Path) -> None:
         """Applies the updates. One that follows by its date is refused by its references, so this one
         alone is applied whatever they are."""
-        updates = [str(self.raw.unpacked(raw)) for raw in plan.updates]
+        updates = [str(self.unpacked(raw)) for raw in plan.updates]
         if plan.begins_by_date:
             first = target if len(updates) == 1 else self.raw.work / "first.cif"
             words = ["update", "--lenient", "--", str(base), updates.pop(0)]
@@ -87,11 +87,19 @@ class FullExtract:
             words = ["update", "--lenient", "--in-sequence", "--", str(base), *updates]
             write_answer(self.cif, words, target, self.count_waived)
 
+    def unpacked(self, raw: Raw) -> Path:
+        """A fetched file without compression. One that is damaged by now is removed."""
+        try:
+            return self.raw.unpacked(raw)
+        except Damaged:
+            self.raw.remove(raw)
+            raise Bad(raw, "it is damaged on the disk") from None
+
     def of_file(self, problem: CifError, plan: Plan) -> CifError:
         """A refusal with the file of which it is."""
-        if problem.status != Refused.status:
+        if problem.status != Refused.status or isinstance(problem, Bad):
             return problem
-        updates = {str(self.raw.unpacked(raw)): raw for raw in plan.updates}
+        updates = {str(self.raw.unpacked_path(raw.header)): raw for raw in plan.updates}
         found = PLACE.search(str(problem))
         raw = updates.get(found[1]) if found else None
         return Bad(raw or plan.full, first_line(problem))

@@ -124,8 +124,13 @@ class RawFiles:
         """A copy that isn't compressed, in the folder for the work of this run."""
         path = self.unpacked_path(raw.header)
         if not path.exists():
-            self.unpack(raw.path, path, str(raw))
+            self.check(raw.path, str(raw))
         return path
+
+    def remove(self, raw: Raw) -> None:
+        """Removes a file, which may then be fetched again."""
+        raw.path.unlink()
+        del self.all[raw.path.name]
 
     def unpack(self, source: Path, target: Path, name: str) -> None:
         with open(source, "rb") as file, new_file(target) as copy:
@@ -135,7 +140,7 @@ class RawFiles:
                 unpack(file, name, copy)
 
     def check(self, path: Path, name: str) -> Header:
-        """Reads all of a file that has just come, which leaves an unpacked copy."""
+        """Reads all of a file, which leaves an unpacked copy."""
         target = self.work / "unpacked"
         try:
             self.unpack(path, target, name)
@@ -180,8 +185,7 @@ class RawFiles:
         for raw in list(self.all.values()):
             needed = newest is not None and raw.header.made >= newest
             if raw.header.made.date() < before and not needed:
-                raw.path.unlink()
-                del self.all[raw.path.name]
+                self.remove(raw)
 
     def keep_since(self, today: date, days: int) -> None:
         self.prune(today - timedelta(days=days))
