@@ -154,7 +154,12 @@ class Files(OneServer):
         self.start()
         self.at(5, hour=23)
         self.assert_silent(self.run_feed())
-        said = "nothing newer than DFROC1S of 2026-12-04 19:35", "not there", "sat.gz", "stays"
+        said = (
+            "DFROC1S of 2026-12-04 19:35 is 2 days old, and nothing newer",
+            "not there",
+            "sat.gz",
+            "stays",
+        )
         self.at(6)
         self.assert_says(self.run_feed(), 4, *said)
         self.assert_stays()

@@ -68,7 +68,11 @@ class Week(NetworkRail):
         monday = self.state()
         self.at(9)
         done = self.run_feed()
-        said = "nothing newer than DFROC1V of 2026-12-07 19:30", "toc-update-tue.CIF.gz", "stays"
+        said = (
+            "DFROC1V of 2026-12-07 19:30 is 2 days old, and nothing newer",
+            "toc-update-tue.CIF.gz",
+            "stays",
+        )
         self.assert_says(done, 4, *said)
         for day, weekday in (10, "wed"), (11, "thu"):
             self.at(day)
@@ -102,7 +106,13 @@ class Week(NetworkRail):
         self.publish_full(as_full(sunday))
         self.at(8, hour=8)
         done = self.run_feed()
-        self.assert_says(done, 0, "follows DFROC1T", "began again", "with 1 updates")
+        self.assert_says(
+            done,
+            0,
+            "follows DFROC1T",
+            "began again",
+            "-full.cif.gz (DFROC1U of 2026-12-06 19:35) and 1 update\n",
+        )
         self.assertEqual(by_hand(self.base, as_full(sunday), [MON]), self.state())
 
     def test_late_update_heals(self) -> None:

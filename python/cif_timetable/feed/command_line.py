@@ -39,7 +39,7 @@ statuses:
   0  success
   1  for --status: nothing was fetched yet, or something is missing
   2  a usage error, or one in feed.toml
-  3  a file is refused, or user and password are
+  3  a file is refused, or the user and the password are
   4  something can't be fetched, read or written, or another run is at work
 """
 

@@ -48,6 +48,12 @@ def state_of(version: Version) -> State:
     return State(version.header, is_plain(version))
 
 
+def gap_between(end: Header, beyond: Raw) -> str:
+    """What is missing between an extract and an update that doesn't follow it."""
+    last = beyond.header.last_reference or "no other"
+    return f"an update after {end} is missing, as {beyond} follows {last}"
+
+
 class Late(Failed):
     """The newest extract is older than it should be."""
 
@@ -136,20 +142,18 @@ class Run:
         beyond = own.next_unreached(self.raw.updates())
         if beyond is None:
             return None
-        end, last = own.end, beyond.header.last_reference
-        gap = f"{beyond} follows {last or 'nothing'}, and not {end}"
-        if plan.full and plan.end.made >= beyond.header.made:
-            with_updates = f" with {len(plan.updates)} updates" if plan.updates else ""
-            return f"{gap}: began again with {plan.full}{with_updates}"
-        return None
+        if plan.full is None or plan.end.made < beyond.header.made:
+            return None
+        count = len(plan.updates)
+        more = f" and {count} update{'s' if count > 1 else ''}" if count else ""
+        return f"{gap_between(own.end, beyond)}: began again with {plan.full}{more}"
 
     def missing(self, plan: Plan) -> str | None:
         """What is said of an update that can't be reached from anything that is here."""
         beyond = plan.next_unreached(self.raw.updates())
         if beyond is None or not self.is_good(beyond):
             return None
-        follows = f"{beyond} follows {beyond.header.last_reference or 'nothing'}"
-        return f"{follows}, and what is between {plan.end} and that is missing: a full extract heals this"
+        return f"{gap_between(plan.end, beyond)}: the next full extract heals this"
 
     # ---- doing it
 
@@ -230,12 +234,12 @@ class Run:
         """Says so if the newest extract is older than it should be, and nothing else explains it."""
         if self.problems:
             return
-        late = "no full extract could be had"
+        late = "no full extract could be fetched"
         if self.state:
             age = (clock.today() - self.state.made.date()).days
             if age <= self.settings.late_days:
                 return
-            late = f"nothing newer than {self.state} could be had, which is {age} days old"
+            late = f"{self.state} is {age} days old, and nothing newer could be fetched"
         absent = ", ".join(self.source.absent)
         self.problems.append(Late(f"{late} (not there: {absent})" if absent else late))
 
