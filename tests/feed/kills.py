@@ -1,4 +1,4 @@
-"""Kills cif-feed at each of its steps that change a file or a folder, in turn."""
+"""Kills cif-feed at each of its steps that change a file or a folder, in turn, and fills its disk."""
 from __future__ import annotations
 
 import json
@@ -39,6 +39,8 @@ WRITES = ("write", "pwrite64")
 CALL = re.compile(r"^(\w+)\((?:\d+<([^>]*)>)?")
 MORNING = datetime(2026, 12, 6, 7, tzinfo=timezone.utc)
 KILLED = -9
+FAILED = 4
+NO_SPACE = "No space left on device"
 SETTINGS = """\
 source = "url"
 address = "{address}/full.gz"
@@ -165,9 +167,12 @@ class Scenario:
         done = subprocess.run(
             [*call, *self.words(folder)], check=False, capture_output=True, text=True
         )
-        if done.returncode != KILLED:
-            return [f"it isn't killed, and ends with {done.returncode}: {done.stderr}"]
+        wanted = KILLED if "signal=KILL" in place else FAILED
+        if done.returncode != wanted:
+            return [f"it ends with {done.returncode}, and not with {wanted}: {done.stderr}"]
         wrong = []
+        if wanted == FAILED and (done.stderr.count("\n") != 1 or NO_SPACE not in done.stderr):
+            wrong.append(f"it says: {done.stderr}")
         if version_of(folder) not in (self.old, self.new):
             wrong.append("current is neither what it was nor what it should be")
         again = subprocess.run(self.words(folder, 1), check=False, capture_output=True, text=True)
@@ -182,7 +187,8 @@ class Scenario:
 
 
 def places_in(lines: list[str], folder: Path) -> Iterator[str]:
-    """Each step, and the first and the last write of each file, as strace counts them."""
+    """Where to kill it: at each step, and at the first and the last write of each file, as strace
+    counts them. At the first one the disk is full, too."""
     counts: dict[str, int] = {}
     writes: dict[tuple[str, str], list[int]] = {}
     for line in lines:
@@ -198,6 +204,7 @@ def places_in(lines: list[str], folder: Path) -> Iterator[str]:
     for (call, _), numbers in writes.items():
         for number in sorted({numbers[0], numbers[-1]}):
             yield f"{call}:signal=KILL:when={number}"
+        yield f"{call}:error=ENOSPC:when={numbers[0]}"
 
 
 def scenarios(base: Path, server: Server) -> Iterator[Scenario]:
@@ -218,4 +225,4 @@ def check(server: Server, report: Callable[[str, list[str]], None]) -> None:
     with tempfile.TemporaryDirectory(prefix="cif-feed-", dir=memory) as name:
         for scenario in scenarios(Path(name).resolve(), server):
             for place in scenario.learn():
-                report(f"{scenario.name}, killed at {place}", scenario.kill_at(place))
+                report(f"{scenario.name}, {place}", scenario.kill_at(place))

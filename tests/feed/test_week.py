@@ -316,6 +316,7 @@ class Made(NetworkRail):
         """New settings and new holidays make new outputs of the same extract; other runs don't."""
         self.start()
         first = self.version_names()
+        self.folder = self.folder.rename(self.base / "moved")
         self.run_feed()
         self.assertEqual(first, self.version_names())
         with open(self.folder / "holidays.txt", "a", encoding="utf-8") as file:
@@ -326,6 +327,22 @@ class Made(NetworkRail):
         self.assertEqual(FULL, self.state())
         text = (self.current / "holidays.txt").read_text(encoding="utf-8")
         self.assertIn("X 270104", text)
+
+    def test_words_of_cif(self) -> None:
+        """It is `cif` that says whether an update follows, and that prepares."""
+        self.start()
+        self.publish_update("sat", SAT)
+        self.at(6)
+        program = self.base / "cif"
+        program.write_text(
+            f'#!/bin/sh\necho "$*" >> "{self.base}/words"\nexec {extracts.CIF} "$@"\n',
+            encoding="utf-8",
+        )
+        program.chmod(0o755)
+        self.assert_silent(self.run_feed("--cif", str(program), str(self.folder)))
+        words = (self.base / "words").read_text(encoding="utf-8")
+        self.assertIn("\nupdate --verbose --lenient --in-sequence -- ", words)
+        self.assertIn("\nprepare --verbose --drop-clashes --holidays=", words)
 
     def test_holidays_that_do_not_reach(self) -> None:
         self.settings("nrod", self.server.address)
@@ -358,6 +375,10 @@ class Made(NetworkRail):
         self.run_feed()
         names = ["20261211-1935-DFROC1Z-full.cif.gz", "fetched.json"]
         self.assertEqual(names, self.raw_names())
+        state, versions = self.state(), self.version_names()
+        self.at(31)
+        self.assert_says(self.run_feed(), 4, "is 20 days old", "stays")
+        self.assertEqual((state, versions), (self.state(), self.version_names()))
 
     def test_status(self) -> None:
         self.assertEqual(1, self.run_status()[0])

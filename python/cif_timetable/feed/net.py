@@ -57,7 +57,11 @@ class Known:
         return {name: value for name, value in named.items() if value}
 
 
-class NotThere(Failed):
+class FetchFault(Failed):
+    """A file can't be fetched, which is no fault of this machine."""
+
+
+class NotThere(FetchFault):
     """A server doesn't have a file."""
 
     def __init__(self, label: str) -> None:
@@ -65,7 +69,7 @@ class NotThere(Failed):
         self.label = label
 
 
-class Unreachable(Failed):
+class Unreachable(FetchFault):
     """A server can't be reached, or fails: another try may succeed."""
 
 
@@ -152,7 +156,7 @@ def copy_body(response: http.client.HTTPResponse, target: IO[bytes], label: str)
         target.write(block)
         done += len(block)
         if done > MOST_BYTES or time.monotonic() > end:
-            raise Failed(f"{label}: it doesn't end")
+            raise FetchFault(f"{label}: it doesn't end")
     if announced is not None and announced.isdigit() and done < int(announced):
         raise Unreachable(f"{label}: the connection broke after {done} of {announced} bytes")
 
@@ -166,15 +170,15 @@ def refusal_of(problem: HTTPError, label: str) -> CifError:
     if problem.code == TOO_MANY or problem.code >= SERVER_FAULTS:
         return Unreachable(f"{label}: the server fails (HTTP {problem.code})")
     if 300 <= problem.code < 400:
-        return Failed(f"{label}: it redirects in a circle, or to nowhere (HTTP {problem.code})")
-    return Failed(f"{label}: the server answers HTTP {problem.code}")
+        return FetchFault(f"{label}: it redirects in a circle, or to nowhere (HTTP {problem.code})")
+    return FetchFault(f"{label}: the server answers HTTP {problem.code}")
 
 
 def fault_of(problem: Exception, label: str) -> CifError:
     """What keeps a server from answering."""
     reason = problem.reason if isinstance(problem, URLError) else problem
     if isinstance(reason, ssl.SSLCertVerificationError):
-        return Failed(f"{label}: its certificate isn't valid: {reason.verify_message}")
+        return FetchFault(f"{label}: its certificate isn't valid: {reason.verify_message}")
     if isinstance(reason, TimeoutError):
         return Unreachable(f"{label}: the server doesn't answer")
     if isinstance(reason, OSError):
@@ -213,7 +217,7 @@ class Client:
                 asked = seconds_asked(answer.headers)
                 problem = refusal_of(answer, address.label)
             except Misdirected:
-                problem = Failed(f"{address.label}: it redirects to what isn't https://")
+                problem = FetchFault(f"{address.label}: it redirects to what isn't https://")
             except CifError as refused:
                 problem = refused
             except (OSError, http.client.HTTPException, ValueError) as fault:

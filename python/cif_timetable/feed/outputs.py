@@ -37,7 +37,13 @@ def digest_of(settings: Settings, version: str) -> str:
     kept = asdict(settings)
     for name in ("folder", "source", "address", "update", "keep_days", "late_days", "one_chain"):
         del kept[name]
-    digest.update(json.dumps(kept, default=str, sort_keys=True).encode())
+
+    def named(value: object) -> str:
+        """A date, or a path from the folder on, which may be moved."""
+        is_path = isinstance(value, Path)
+        return os.path.relpath(str(value), settings.folder) if is_path else str(value)
+
+    digest.update(json.dumps(kept, default=named, sort_keys=True).encode())
     for path in settings.paths():
         digest.update(hashlib.sha256(path.read_bytes()).digest())
     return digest.hexdigest()

@@ -13,10 +13,10 @@ from pathlib import Path
 from urllib.parse import urlencode, urlsplit
 
 from .._files import BLOCK, synchronise
-from ..errors import CifError, Damaged, Failed, Misused, Refused
+from ..errors import CifError, Damaged, Misused, Refused
 from .credentials import WHERE, Credentials, credentials_for
 from .header import Header
-from .net import Address, Client, Denied, NotThere, Unreachable, check_secret, origin_of
+from .net import Address, Client, Denied, FetchFault, NotThere, Unreachable, check_secret, origin_of
 from .raw import RawFiles, packed_header
 from .settings import NAME, WEEKDAY, Settings
 from .whole import new_file
@@ -70,7 +70,8 @@ class Source(ABC):
             work()
         except NotThere as problem:
             self.absent.append(problem.label)
-        except (Refused, Failed) as problem:
+        except (Refused, Damaged, FetchFault) as problem:
+            # a fault of this machine ends the run
             self.problems.append(problem)
             self.is_down = isinstance(problem, (Denied, Unreachable))
 
@@ -155,7 +156,7 @@ class Rdg(Source):
                 raise ValueError
         except (ValueError, KeyError, TypeError):
             # the answer isn't shown, since it may have the token
-            raise Failed(f"{self.token_address.label}: the answer has none") from None
+            raise FetchFault(f"{self.token_address.label}: the answer has none") from None
         finally:
             path.unlink(missing_ok=True)
         return token
