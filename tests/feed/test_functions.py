@@ -12,7 +12,7 @@ from pathlib import Path
 from unittest import mock
 
 from cif_timetable.errors import CifError, Misused, Refused
-from cif_timetable.feed import credentials, net
+from cif_timetable.feed import credentials, net, versions
 from cif_timetable.feed.chain import State, best_plan, chain_from
 from cif_timetable.feed.header import Header, read_header
 from cif_timetable.feed.holidays import holidays_of, read_list, text_of
@@ -338,6 +338,38 @@ class HolidayDates(WithServer):
         self.at(5, hour=9)
         self.assert_says(self.run_feed(), 0, "the list of bank holidays", "of an earlier run")
         self.assertIn("X 2026-12-28", (self.current / "holidays.txt").read_text(encoding="utf-8"))
+
+
+class Commits(InFolder):
+    """How a version becomes the current one."""
+
+    def test_all_is_on_the_disk_before(self) -> None:
+        found = versions.Versions(self.folder)
+        path = found.new(self.now)
+        (path / "a").touch()
+        (path / "b").mkdir()
+        (path / "b" / "c").touch()
+        wanted = {path, path / "a", path / "b", path / "b" / "c", self.folder / "versions"}
+        done: list[Path] = []
+
+        def replace(_new: Path, link: Path) -> None:
+            self.assertEqual(self.folder / "current", link)
+            self.assertEqual(wanted, set(done))
+            done.append(link)
+
+        with mock.patch.object(versions, "synchronise", done.append):
+            with mock.patch.object(os, "replace", replace):
+                found.commit(path)
+        self.assertEqual([self.folder / "current", self.folder], done[-2:])
+
+    def test_names(self) -> None:
+        """Each comes after all others, also when the clock was set back."""
+        found = versions.Versions(self.folder)
+        names = [found.new(self.now).name for _ in range(2)]
+        self.at(1)
+        names.append(found.new(self.now).name)
+        want = ["20261205T070000Z", "20261205T070001Z", "20261205T070002Z"]
+        self.assertEqual(want, names)
 
 
 class Requests(unittest.TestCase):

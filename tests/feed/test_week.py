@@ -295,6 +295,16 @@ class Made(NetworkRail):
         with zipfile.ZipFile(self.current / "gtfs.zip") as archive:
             self.assertIn("20261208", archive.read("feed_info.txt").decode())
         self.assertEqual(2, len(self.version_names()))
+        changes = (self.current / "changes.csv").read_bytes()
+        self.assertGreater(changes.count(b"\n"), 2)
+        # what is made anew of the same extract says what changed since the one before that
+        (self.folder / "holidays.txt").write_text(f"{extracts.HOLIDAYS}\nE\n", encoding="utf-8")
+        self.settings(
+            "nrod", self.server.address, "past_days = 0", outputs='report = "changes.html"'
+        )
+        self.run_feed()
+        self.assertEqual(3, len(self.version_names()))
+        self.assertEqual(changes, (self.current / "changes.csv").read_bytes())
 
     def test_waived_and_dropped(self) -> None:
         self.start()
