@@ -204,7 +204,7 @@ class Files(OneServer):
         self.server.put("/full.gz", packed(extracts.full(date(2026, 12, 6), "DFROC1U", "A00001")))
         done = self.run_feed()
         self.assertEqual("DFROC1U", self.reference())
-        self.assertIn("BadTransaction", done.said)
+        self.assert_says(done, 0, "DFROC1T", "BadTransaction")
         self.at(7, hour=9)
         self.assert_silent(self.run_feed())
 
@@ -224,7 +224,7 @@ class Files(OneServer):
         state.unlink()
         state.write_bytes(content.replace(b"BSN", b"BSQ", 1))
         done = self.run_feed()
-        self.assertIn("the current extract", done.said)
+        self.assert_says(done, 0, "the current extract")
         self.assertEqual(extracts.by_hand(self.base, FULL, [SAT]), self.state())
 
     def test_kept_file_that_is_damaged(self) -> None:

@@ -343,23 +343,28 @@ class HolidayDates(WithServer):
 class Commits(InFolder):
     """How a version becomes the current one."""
 
-    def test_all_is_on_the_disk_before(self) -> None:
-        found = versions.Versions(self.folder)
-        path = found.new(self.now)
-        (path / "a").touch()
-        (path / "b").mkdir()
-        (path / "b" / "c").touch()
-        wanted = {path, path / "a", path / "b", path / "b" / "c", self.folder / "versions"}
-        done: list[Path] = []
+    has_user = False
 
-        def replace(_new: Path, link: Path) -> None:
-            self.assertEqual(self.folder / "current", link)
-            self.assertEqual(wanted, set(done))
-            done.append(link)
+    def test_all_is_on_the_disk_before(self) -> None:
+        """When the link is replaced, each file of the version has been waited for, and each folder;
+        after that the folder of the link."""
+        (self.folder / "incoming").mkdir()
+        (self.folder / "incoming" / "full.cif").write_bytes(extracts.FULL)
+        self.settings("folder", "incoming")
+        done: list[Path] = []
+        real = os.replace
+
+        def replace(new: Path, place: Path) -> None:
+            if place.name == "current":
+                found = {*self.folder.rglob("versions"), *self.folder.rglob("versions/**/*")}
+                self.assertGreater(len(found), 4)
+                self.assertEqual(found, found & set(done))
+                done.append(place)
+            real(new, place)
 
         with mock.patch.object(versions, "synchronise", done.append):
             with mock.patch.object(os, "replace", replace):
-                found.commit(path)
+                self.assert_silent(self.run_feed())
         self.assertEqual([self.folder / "current", self.folder], done[-2:])
 
     def test_names(self) -> None:

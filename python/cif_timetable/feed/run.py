@@ -4,8 +4,10 @@ from __future__ import annotations
 import os
 import shutil
 import time
+from collections.abc import Callable
 from datetime import timedelta
 from pathlib import Path
+from typing import TypeVar
 
 from .._process import Cif
 from .._progress import Progress
@@ -23,6 +25,8 @@ from .raw import Raw, RawFiles
 from .settings import Settings
 from .sources import Source, source_of
 from .versions import Facts, Version, Versions, only_run
+
+Value = TypeVar("Value")
 
 LOG = "feed.log"
 WORK = ".work"
@@ -157,8 +161,8 @@ class Run:
 
     # ---- doing it
 
-    def build(self, plan: Plan, digest: str) -> tuple[Version | None, list[str]]:
-        """Makes a version, and makes it the current one."""
+    def build(self, plan: Plan, digest: str) -> tuple[Version, list[str]]:
+        """Makes a version, and makes it the current one. Returns it, and what is to be said."""
         path = self.versions.new(clock.now())
         try:
             facts = Facts()
@@ -169,13 +173,14 @@ class Run:
             self.make_outputs(maker, plan, header, path)
             facts.fetched_at = clock.now().isoformat()
             maker.write_facts(path, digest)
+            self.versions.synchronise(path)
             maker.load_postgresql(header, path)
             self.versions.commit(path)
         except BaseException:
             if self.versions.current_name() != path.name:
                 shutil.rmtree(path, ignore_errors=True)
             raise
-        self.notes.append(f"made {header} of {' and '.join([facts.base, *facts.updates])}")
+        self.notes.append(f"made {header} from {', '.join([facts.base, *facts.updates])}")
         self.notes += [f"waived {facts.waived}, dropped {facts.dropped}", *facts.said]
         self.notes += [
             f"{name} not read: {count} schedules" for name, count in facts.not_read.items()
@@ -218,7 +223,7 @@ class Run:
                 continue
             if missing:
                 self.problems.append(Failed(missing))
-            return said
+            return said + self.take_healed()
 
     def set_aside(self, bad: Bad) -> None:
         """Does without a file that `cif` refuses."""
@@ -227,6 +232,19 @@ class Run:
             raise bad
         self.bad.add(path)
         self.problems.append(bad)
+
+    def take_healed(self) -> list[str]:
+        """What is said of files that `cif` refused, where the run did as well without them."""
+        healed = [problem for problem in self.problems if self.is_healed(problem)]
+        self.problems = [problem for problem in self.problems if problem not in healed]
+        return list(map(first_line, healed))
+
+    def is_healed(self, problem: CifError) -> bool:
+        if not isinstance(problem, Bad) or self.version is None:
+            return False
+        if problem.raw is None:
+            return self.version.extract not in self.bad
+        return problem.raw.header.made <= self.version.header.made
 
     # ---- the end
 
@@ -267,15 +285,15 @@ def write_log(folder: Path, text: str) -> None:
         os.close(descriptor)
 
 
-def guarded(run: Run) -> list[str]:
-    """What a run says though all is well. What ends it is one of its problems."""
+def guarded(run: Run, work: Callable[[], Value], otherwise: Value) -> Value:
+    """What a part of a run returns. What ends it is one of the run's problems."""
     try:
-        return run.go()
+        return work()
     except CifError as problem:
         run.problems.append(problem)
     except OSError as problem:
         run.problems.append(Failed(description_of(problem)))
-    return []
+    return otherwise
 
 
 def bring_up_to_date(
@@ -286,10 +304,10 @@ def bring_up_to_date(
     with only_run(settings.folder):
         run = Run(settings, cif, user, progress)
         before = run.state
-        said = guarded(run)
+        said: list[str] = guarded(run, run.go, [])
         run.problems += run.source.problems
         run.check_late()
-        run.finish()
+        guarded(run, run.finish, None)
         lines = [*said, *map(first_line, run.problems)]
         if run.problems and run.state == before:
             lines += run.outcome()

@@ -147,13 +147,16 @@ class Versions:
         path.mkdir()
         return path
 
-    def commit(self, path: Path) -> None:
-        """Makes a version the current one. Before, all of it is on the disk."""
+    def synchronise(self, path: Path) -> None:
+        """Waits until all of a version is on the disk."""
         for parent, _, names in os.walk(path):
             for name in names:
                 synchronise(Path(parent, name))
             synchronise(Path(parent))
         synchronise(self.folder)
+
+    def commit(self, path: Path) -> None:
+        """Makes a version the current one, once it is on the disk."""
         new = self.link.with_name(".current.new")
         new.unlink(missing_ok=True)
         new.symlink_to(f"{self.folder.name}/{path.name}")
