@@ -137,7 +137,8 @@ class Maker:
         common = ["--cif", self.cif.path, "--drop-clashes"]
         common += ["--holidays", HOLIDAYS] if (path / HOLIDAYS).exists() else []
         prepared = self.write_prepared(path)
-        self.read_beside(path)
+        if outputs.have_names():
+            self.read_beside(path)
         if outputs.extract:
             self.progress.show("the extract")
             self.write_cut(prepared, window, path / outputs.extract)

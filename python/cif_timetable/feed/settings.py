@@ -39,6 +39,10 @@ class Outputs:
     gtfs: str | None = None
     report: str | None = None
 
+    def have_names(self) -> bool:
+        """Whether one of them has the names of places."""
+        return any((self.database, self.postgresql, self.gtfs, self.report))
+
     def names(self) -> list[str]:
         """The names of all files that a version may have for them."""
         named = [self.extract, self.database, self.gtfs, self.report]
