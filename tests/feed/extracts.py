@@ -1,4 +1,5 @@
-"""Extracts and updates: those of samples/, and further ones that are made here."""
+"""Extracts and updates: those of samples/, which are made up, in the layouts that producers use, from
+memory; and further ones that are made here."""
 from __future__ import annotations
 
 import gzip

@@ -197,8 +197,9 @@ class SettingsFile(InFolder):
                 self.assertIn(told, self.refusal(text))
 
     def test_status_of_a_mistake(self) -> None:
-        (self.folder / "feed.toml").write_text("sorce = 'nrod'\n", encoding="utf-8")
-        self.assertEqual(2, self.run_feed().status)
+        for text in "sorce = 'nrod'\n", "source = nrod\n":
+            (self.folder / "feed.toml").write_text(text, encoding="utf-8")
+            self.assertEqual(2, self.run_feed().status)
         (self.folder / "feed.toml").unlink()
         done = self.run_feed()
         self.assertEqual(2, done.status)

@@ -11,7 +11,7 @@ from difflib import get_close_matches
 from pathlib import Path
 from typing import NoReturn
 
-from ..errors import Misused, Refused
+from ..errors import Misused
 from .net import check_address
 
 NAME = "feed.toml"
@@ -283,7 +283,7 @@ def read_settings(folder: Path) -> Settings:
         hint = f"cif-feed --example nrod > {path}"
         raise Misused(f"{path} isn't there: `{hint}` makes one to fill in") from None
     except (tomllib.TOMLDecodeError, UnicodeDecodeError) as problem:
-        raise Refused(f"{path}: {problem}") from None
+        raise Misused(f"{path}: {problem}") from None
     table = Table(folder, values)
     source, address, update = read_source(table)
     with_updates = source == "nrod" or update is not None
