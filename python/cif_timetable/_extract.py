@@ -23,7 +23,7 @@ Value = TypeVar("Value")
 # The status of `cif diff` where it finds a difference.
 DIFFERENT = 1
 # How records are joined over weeks: what `cif` takes by default.
-FORM = "2"
+FORM = "3"
 # The years of extracts, of which two digits are written.
 YEARS = range(1960, 2060)
 # What is said of dates, and not of lines.

@@ -100,11 +100,13 @@ def mail_address(value: str) -> str:
 
 
 class Field(NamedTuple):
-    """A field by its name: what reads its values, and whether each row has to have one."""
+    """A field by its name: what reads its values, whether each row has to have one, and whether a
+    file may be without the field."""
 
     name: str
     read: Callable[[str], object]
     needed: bool = False
+    optional: bool = False
 
 
 def nothing_wrong(_row: object) -> Iterator[str]:
@@ -192,7 +194,8 @@ class Reader(Generic[Row]):
 
     def is_heading(self, names: Sequence[str]) -> bool:
         fields = [field.name for field in self.layout.fields]
-        wrong = [f"the field {name} is missing" for name in fields if name not in names]
+        needed = [field.name for field in self.layout.fields if not field.optional]
+        wrong = [f"the field {name} is missing" for name in needed if name not in names]
         wrong += [f"the field {name} is a duplicate" for name in fields if names.count(name) > 1]
         self.mistakes += [(1, mistake) for mistake in wrong]
         return not wrong
@@ -206,7 +209,8 @@ class Reader(Generic[Row]):
         known = len(self.mistakes)
         given = dict(zip(names, cells))
         values = {
-            field.name: self.value(line, field, given[field.name]) for field in self.layout.fields
+            field.name: self.value(line, field, given.get(field.name, ""))
+            for field in self.layout.fields
         }
         key = tuple(values[name] for name in self.layout.key)
         if None not in key:

@@ -42,7 +42,7 @@ def main() -> int:
         if "PGHOST" in os.environ:
             postgres.check(counts, maker, special, blank)
             documents.check_questions(counts, maker)
-            documents.check_hub(counts, maker)
+        documents.check_hub(counts, maker)
         documents.check_job(counts, cif, folder / "nights")
         failures.check(counts, maker, special)
         words.check(counts)

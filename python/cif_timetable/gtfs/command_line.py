@@ -100,7 +100,7 @@ def outputs_of(asked: argparse.Namespace) -> Outputs:
     if asked.places_wanted is not None:
         wanted = ListPlace(output_path(asked.places_wanted), asked.places_wanted)
     outputs = [place for place in (feed, wanted and wanted.place, trips) if place]
-    others = (asked.places, asked.operators, asked.interchange, asked.links, asked.holidays)
+    others = (*asked.places, asked.operators, asked.interchange, asked.links, asked.holidays)
     check_inputs_stay(outputs, [asked.extract], others)
     if len(set(outputs)) < len(outputs):
         raise Misused("two outputs have one place")

@@ -20,7 +20,7 @@ from ..days import Dated, Dates, Window
 from ..errors import Refused
 from ..model import Association as AssociationRow, Header, Location
 from ..operators import OperatorRow, read_operators
-from ..places import PLACES, PlaceRow, Places
+from ..places import PlaceRow, Places, read_places
 from ..user_csv import Key, read_file
 from . import feed
 from .associations import (
@@ -55,14 +55,14 @@ class UserFiles(NamedTuple):
 
 
 def user_files(
-    places: str | None,
+    places: Sequence[str],
     operators: str | None,
     interchange: str | None,
     links: str | None,
 ) -> UserFiles:
     """What the files of the user have, as far as there are any."""
     return UserFiles(
-        read_file(PLACES, places),
+        read_places(places),
         read_operators(operators),
         read_file(INTERCHANGE, interchange),
         read_file(LINKS, links),

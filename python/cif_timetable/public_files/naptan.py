@@ -99,7 +99,7 @@ def coordinates_of(path: str, line: int, station: Station) -> tuple[str, str]:
         raise refusal(path, line, "one of Longitude and Latitude is missing")
     if not any(angles):
         return coordinates_on_grid(path, line, station)
-    for text in mistakes_of_place(PlaceRow("", None, *angles)):
+    for text in mistakes_of_place(PlaceRow("", None, angles[0], angles[1])):
         raise refusal(path, line, text)
     return station.latitude, station.longitude
 

@@ -72,7 +72,7 @@ def place_of(asked: argparse.Namespace) -> Path:
         name = PACKED.sub("", asked.extract)
         name = os.path.splitext(name)[0] + ".db"
     place = output_path(name)
-    others = (asked.places, asked.operators, asked.holidays)
+    others = (*asked.places, asked.operators, asked.holidays)
     check_inputs_stay([place], [asked.extract], others)
     return place
 

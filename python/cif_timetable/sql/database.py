@@ -3,7 +3,7 @@ from __future__ import annotations
 
 import hashlib
 import os
-from collections.abc import Callable, Iterator
+from collections.abc import Callable, Iterator, Sequence
 from concurrent.futures import ThreadPoolExecutor
 from contextlib import contextmanager
 from datetime import datetime, timezone
@@ -15,16 +15,16 @@ from .._files import BLOCK, new_files
 from .._process import Cif
 from .._progress import Progress
 from ..operators import read_operators
-from ..places import PLACES
-from ..user_csv import CONTROL, read_file
+from ..places import read_places
+from ..user_csv import CONTROL
 from .background import in_background
 from .loading import Source, UserFiles, load
 from .sqlite_file import Parts, check_age, check_place, join_parts, new_part
 
 
-def user_files(places: str | None, operators: str | None) -> UserFiles:
+def user_files(places: Sequence[str], operators: str | None) -> UserFiles:
     """What the files of the user have, as far as there are any."""
-    return UserFiles(read_file(PLACES, places), read_operators(operators))
+    return UserFiles(read_places(places), read_operators(operators))
 
 
 def version_of(cif: Cif) -> str:
