@@ -150,6 +150,8 @@ class Places:
             if name not in self.tiplocs:
                 names = ((row.tps_description or "").strip(), (row.description or "").strip())
                 self.add(name, (row.crs_code or "").strip(), *names)
+        # those that have a TI
+        self.listed = frozenset(self.tiplocs)
 
     def add(self, name: str, crs: str, tps_name: str = "", short: str = "") -> Tiploc:
         given = self.given.get((name,), PlaceRow(name, None, None, None))

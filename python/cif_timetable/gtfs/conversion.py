@@ -39,7 +39,7 @@ from .parts import Index, Part, Schedules, in_thread, parts_of, processes_for
 from .routes import Route, Routes
 from .services import Services
 from .stops import Stops
-from .trains import Kind, PublicTrain, Record, ScheduleReader
+from .trains import Change, Kind, PublicTrain, Record, ScheduleReader, read_changes
 from .trips import Assembly, Link, TripsOfUid, add_records, plain_trips
 from .user_files import INTERCHANGE, LINKS, InterchangeRow, LinkRow
 from .wanted import ListPlace, wanted_of, write_wanted
@@ -84,6 +84,7 @@ class Wishes(NamedTuple):
     types: Mapping[Kind, int]
     whole_trains: bool
     publisher: feed.Publisher
+    attributions: Sequence[feed.Attribution] = ()
     # how many processes cut the calls, unless that follows from how many there are
     processes: int | None = None
 
@@ -97,6 +98,8 @@ class Timetable:
     places: Places
     associations: list[Association]
     schedules: Schedules
+    # the categories that schedules get en route
+    changes: dict[bytes, list[Change]]
     # of each train with associations, where it has to stop for these
     spots: dict[str, set[Spot]]
 
@@ -120,7 +123,10 @@ def read_timetable(extract: Extract, given: Mapping[Key, PlaceRow]) -> Iterator[
         with extract.table("schedules") as table:
             schedules = Schedules(table.names, file)
             schedules.fill(table)
-        yield Timetable(header, window, places, associations, schedules, spots_of(associations))
+        with extract.table("changes") as table:
+            changes = read_changes(table)
+        spots = spots_of(associations)
+        yield Timetable(header, window, places, associations, schedules, changes, spots)
 
 
 # Which of the schedules of an extract one is: its UID, first and last date and days run, as they stand
@@ -196,10 +202,12 @@ def variants_of(
 
 
 class LeftOutCounts(NamedTuple):
-    """How many dates are left out: of trains that aren't for riders, and of associations."""
+    """How many dates are left out: of trains that aren't for riders, and of associations; and how many
+    links between stations."""
 
     trains: int
     associations: LeftOut
+    links: int
 
     def lines(self) -> list[str]:
         lines = [
@@ -209,6 +217,8 @@ class LeftOutCounts(NamedTuple):
         ]
         if self.trains:
             lines.insert(0, f"trains left out: they aren't for riders: {self.trains}")
+        if self.links:
+            lines.append(f"links left out: they are there on no date of the window: {self.links}")
         return lines
 
 
@@ -241,7 +251,9 @@ class Conversion:
         self.wishes = wishes
         self.files = files
         self.records = records
-        self.reader = ScheduleReader(timetable.schedules.names, timetable.window, wishes.types)
+        self.reader = ScheduleReader(
+            timetable.schedules.names, timetable.window, wishes.types, timetable.changes
+        )
 
     def write(self, trips: TripsOfUid) -> None:
         self.files.write(trips.trips.values())
@@ -425,10 +437,15 @@ def convert(
             feed.write_file(archive, "agency", agencies)
             feed.write_file(archive, "stops", stops.rows())
             feed.write_file(archive, "routes", routes.rows())
-            transfers = feed.transfer_rows(links, stops, given.interchange, given.links)
+            fixed_links, expired = feed.links_in(given.links.values(), timetable.header)
+            transfers = feed.transfer_rows(links, stops, given.interchange, fixed_links)
             feed.write_file(archive, "transfers", transfers)
             about = feed.feed_info_row(timetable.header, wishes.publisher)
             feed.write_file(archive, "feed_info", [about])
+            if wishes.attributions:
+                rows = feed.attribution_rows(wishes.attributions)
+                feed.write_file(archive, "attributions", rows)
         wanted = wanted_of(stops)
         write_wanted(wanted, outputs.wanted, files)
-    return Outcome(wanted.stations, LeftOutCounts(conversion.reader.not_for_riders, left_out))
+    left_out_counts = LeftOutCounts(conversion.reader.not_for_riders, left_out, expired)
+    return Outcome(wanted.stations, left_out_counts)

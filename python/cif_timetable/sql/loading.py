@@ -1,6 +1,8 @@
 """From an extract to the rows of a database."""
 from __future__ import annotations
 
+import re
+from collections import Counter
 from collections.abc import Callable, Collection, Iterable, Iterator, Mapping
 from contextlib import ExitStack
 from dataclasses import astuple
@@ -28,6 +30,8 @@ NEVER = b"1"
 MOST_MIDNIGHTS = 31
 
 
+# So many locations without a TI are named.
+MOST_PLACES = 10
 # The types of associations that riders are told of.
 FOR_PASSENGERS = (None, "P")
 # How many days after the base train the associated one runs, by the date indicator.
@@ -270,6 +274,11 @@ class Journeys:
         self.origin = itemgetter(*(calls.index(name) - 1 for name in ("location", "departure")))
         self.destination = itemgetter(*(calls.index(name) - 1 for name in ("location", "arrival")))
         self.change = itemgetter(changes.index("call") - 1, changes.index("category") - 1)
+        # the location stands after so many cells
+        before = calls.index("location") - 1
+        self.location = re.compile(rb"^(?:[^\t\n]*\t){%d}([^\t\n]*)" % before, re.MULTILINE)
+        self.locations: Counter[bytes] = Counter()
+        self.places = places
         self.uid = ""
         self.of_uid: dict[tuple[bytes, bytes, Sort], Journey] = {}
         self.count = 0
@@ -300,6 +309,7 @@ class Journeys:
         self.count += 1
         self.journeys.add(f"{self.count}\t{self.uid}\n".encode())
         self.calls.add(with_number(self.count, calls))
+        self.locations.update(self.location.findall(calls))
         rows, for_riders, ends = self.public.rows(self.count, public, sort)
         self.public_calls.add(rows)
         if self.midnights > MOST_MIDNIGHTS:
@@ -307,6 +317,11 @@ class Journeys:
             raise Refused(f"{self.uid} has calls after {self.midnights} midnights: {most}")
         self.changes.add(with_number(self.count, changes))
         return Journey(self.count, int(for_riders >= 2), f"{self.ends_of(calls)}\t{ends}")
+
+    def unknown(self) -> dict[str, int]:
+        """How many calls are at each location that has no TI."""
+        names = ((name.decode(), count) for name, count in self.locations.items())
+        return {name: count for name, count in names if name not in self.places.listed}
 
     @property
     def midnights(self) -> int:
@@ -379,11 +394,25 @@ class Schedules:
         self.per_day.add(counted, first.encode(), last.encode(), days_run.encode())
 
 
+class Loaded(NamedTuple):
+    """How many calls are at each location that has no TI."""
+
+    unknown: Mapping[str, int]
+
+    def text(self) -> str:
+        """How many calls these are, and where most of them are."""
+        most = sorted(self.unknown, key=lambda place: (-self.unknown[place], place))[:MOST_PLACES]
+        count = sum(self.unknown.values())
+        return f"{count} ({', '.join(most)})" if count else "0"
+
+
 class LoadedTrains(NamedTuple):
-    """How many midnights there are within a train at most, and each days run of a schedule."""
+    """How many midnights there are within a train at most, each days run of a schedule, and how many
+    calls are at each location that has no TI."""
 
     midnights: int
     days_run: set[str]
+    unknown: Mapping[str, int]
 
 
 def load_trains(
@@ -420,7 +449,7 @@ def load_trains(
     schedules.schedules.flush()
     names = "date operator passenger as_required trains".split()
     database.fill("trains_per_day", names, rows_of(trains_per_day(schedules.per_day)))
-    return LoadedTrains(journeys.midnights, schedules.days_run)
+    return LoadedTrains(journeys.midnights, schedules.days_run, journeys.unknown())
 
 
 def load(
@@ -429,7 +458,7 @@ def load(
     given: UserFiles,
     database: Database,
     progress: Progress,
-) -> None:
+) -> Loaded:
     """Fills all tables of a database. The source is asked for at the end."""
     progress.show("reading trains and associations")
     header = extract.header()
@@ -452,3 +481,4 @@ def load(
     about = [*astuple(header), moment_of(header), *source()]
     names = (*fields_of(Header), "extracted_at", *Source._fields)
     database.fill("extract", names, rows_of([about]))
+    return Loaded(trains.unknown)
