@@ -242,7 +242,65 @@ def check_bicycles(counts: Counts, maker: Maker) -> None:
     )
 
 
+# A published train without an end, that is cancelled on a Wednesday, and the published schedules that decide on each date.
+TRAIN = """\
+HDTPS.UTEST01.PD2601040401262130DFTEST1       FA050126250126
+BSNP000012601059999991111100 POO1P01    122104000 EMU    090      B            P
+BX         SRYSR000100
+LOALPHA   0900 09001         TB
+LTBETA    1000 10002     TF
+BSNP000012601142601140010000                                                   C
+ZZ
+"""
+WINNERS = """\
+uid first_date last_date stp_indicator wins_from wins_to days_run
+P00001 2026-01-05  P 2026-01-05 2026-01-13 1111100
+P00001 2026-01-14 2026-01-14 C 2026-01-14 2026-01-14 0010000
+P00001 2026-01-05  P 2026-01-15 2026-01-23 1111100
+"""
+
+
+def published_train(cif: Path, folder: Path) -> Tuple[Path, Path]:
+    """The extract, and a program that says which of its schedules decide, as `cif prepare --winners` does."""
+    extract, program, table = (
+        folder / name for name in ("published-train.cif", "cif-with-winners", "winners")
+    )
+    extract.write_text("".join(f"{line:80}\n" for line in TRAIN.splitlines()))
+    table.write_text(WINNERS.replace(" ", "\t"))
+    program.write_text(
+        f"""#!/bin/sh
+case "$*" in
+'prepare --verbose --help') echo '--winners' ;;
+'prepare --verbose --winners '*) cat '{table}' ;;
+*) exec '{cif}' "$@" ;;
+esac
+"""
+    )
+    program.chmod(0o755)
+    return extract, program
+
+
+def check_published_trips(counts: Counts, maker: Maker) -> None:
+    """Of each trip and range of dates the first date and the letter that were published."""
+    extract, program = published_train(maker.cif, maker.folder)
+    maker.run("--cif", program, "--trips", "trips.csv", "-o", "feed.zip", extract)
+    got = rows({"trips": (maker.folder / "trips.csv").read_text()}, "trips", *TRIP_FIELDS)
+    first = ("P00001", "2026-01-05", "2026-01-13", "1111100", "SR000100", "2026-01-05", "P")
+    counts.same(
+        "published schedules of trips",
+        [first, (*first[:1], "2026-01-15", "2026-01-23", *first[3:])],
+        got,
+    )
+
+
+TRIP_FIELDS = (
+    *("uid", "first_date", "last_date", "days_run", "retail_service_id"),
+    *("published_first_date", "stp_indicator"),
+)
+
+
 def check(counts: Counts, maker: Maker) -> None:
+    check_published_trips(counts, maker)
     check_stations(counts, maker)
     check_riders(counts, maker)
     check_links(counts, maker)

@@ -6,10 +6,11 @@ from functools import partial
 from typing import Dict, List, Tuple
 
 from gtfs.checks import Counts, Word
-from gtfs.stations import FEEDS, PARTS, PUBLISHED
+from gtfs.stations import FEEDS, PARTS, PUBLISHED, published_train
 
 from .by_hand import Queries, check_queries, text_of
 from .checks import Maker, sqlite_rows
+from .definition import SqlRow
 
 # Each extract or its words, with its queries.
 PUBLISHED_QUERIES: Queries = {
@@ -179,5 +180,19 @@ def check(counts: Counts, maker: Maker) -> None:
     done = maker.run("--verbose", "-o", "made.db", "--force", *PUBLISHED)
     told = re.findall(r"^cif-sql: calls whose location has no TI: (.*)$", done.stderr, re.MULTILINE)
     counts.same("calls without a TI are counted", ["1 (PRST)"], told)
-    for used in "parts.csv", "linked.cif", "made.db":
-        (maker.folder / used).unlink()
+    extract, program = published_train(maker.cif, maker.folder)
+    path = maker.database("--cif", program, extract)
+    query = "SELECT count(*), min(date), max(date), first_date, last_date, stp_indicator FROM published_runs GROUP BY first_date"
+    want: List[SqlRow] = [("14", "2026-01-05", "2026-01-23", "2026-01-05", None, "P")]
+    counts.same("the published schedules of runs", want, sqlite_rows(path, query))
+    query = "SELECT wins_from, wins_to, stp_indicator FROM published ORDER BY wins_from"
+    want = [
+        ("2026-01-05", "2026-01-13", "P"),
+        ("2026-01-14", "2026-01-14", "C"),
+        ("2026-01-15", "2026-01-23", "P"),
+    ]
+    counts.same("the published schedules", want, sqlite_rows(path, query))
+    for used in extract, program, maker.folder / "winners":
+        used.unlink()
+    for name in "parts.csv", "linked.cif", "made.db":
+        (maker.folder / name).unlink()

@@ -246,7 +246,9 @@ class Conversion:
         wishes: Wishes,
         files: feed.TripFiles,
         records: IO[bytes] | None,
+        winners: Mapping[str, Sequence[feed.Winner]],
     ) -> None:
+        self.winners = winners
         self.timetable = timetable
         self.wishes = wishes
         self.files = files
@@ -273,7 +275,8 @@ class Conversion:
         self, trip_id: bytes, uid: str, days_later: int, records: Iterable[Record]
     ) -> None:
         assert self.records is not None
-        rows = feed.trip_record_rows(trip_id, uid, days_later, records)
+        winners = self.winners.get(uid, ())
+        rows = feed.trip_record_rows(trip_id, uid, days_later, records, winners)
         self.records.write(feed.csv_of(rows))
 
     def read_trains(
@@ -418,13 +421,16 @@ def convert(
         routes = Routes(stops)
         services = Services(timetable.window)
         records = None
+        published: Mapping[str, Sequence[feed.Winner]] = {}
         if outputs.trips:
             records = files.create(outputs.trips)
             records.write(feed.csv_of([feed.TRIP_RECORDS]))
+            with extract.winners() as winners:
+                published = feed.read_winners(winners) if winners else {}
         with feed.new_zip(files.create(outputs.feed)) as archive, scratch_file() as trips:
             with feed.entry(archive, "stop_times") as stop_times:
                 trip_files = feed.TripFiles(stops, routes, services, (trips, stop_times))
-                conversion = Conversion(timetable, wishes, trip_files, records)
+                conversion = Conversion(timetable, wishes, trip_files, records, published)
                 processes = processes_for(wishes.processes, timetable.schedules.count)
                 variants = conversion.read_trains(extract, processes, progress)
                 links, left_out = conversion.write_linked(variants)

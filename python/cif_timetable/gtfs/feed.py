@@ -7,10 +7,12 @@ import shutil
 import zipfile
 from collections.abc import Iterable, Iterator, Mapping, Sequence
 from contextlib import contextmanager
+from datetime import date
 from itertools import islice
 from typing import IO, NamedTuple
 
 from .._files import BLOCK, scratch_file
+from .._tables import Table
 from ..days import WEEKDAYS, Dates
 from ..model import Header
 from ..user_csv import Key, csv_cell
@@ -253,13 +255,56 @@ def feed_info_row(header: Header, publisher: Publisher) -> Row:
     return (*about, *dates, words, publisher.email)
 
 
-TRIP_RECORDS = "trip_id uid first_date last_date days_run days_later retail_service_id".split()
+TRIP_RECORDS = (
+    "trip_id uid first_date last_date days_run days_later retail_service_id published_first_date"
+    " stp_indicator".split()
+)
+
+
+class Winner(NamedTuple):
+    """A published schedule that decides on dates, by its first date and letter."""
+
+    first_date: str
+    stp_indicator: str
+    wins_from: str
+    wins_to: str
+    days_run: str
+
+    def shared(self, first: str, last: str, days_run: str) -> tuple[str, str, str] | None:
+        """The dates, of those from the first to the last on these weekdays, on which it decides."""
+        start, end = max(first, self.wins_from), min(last, self.wins_to)
+        both = "".join(str(int(one == other == "1")) for one, other in zip(days_run, self.days_run))
+        days = (date.fromisoformat(end) - date.fromisoformat(start)).days + 1
+        weekday = date.fromisoformat(start).weekday()
+        found = any(both[(weekday + later) % 7] == "1" for later in range(min(days, 7)))
+        return (start, end, both) if found else None
+
+
+def read_winners(table: Table) -> dict[str, list[Winner]]:
+    """The published schedules that decide what runs, by their UIDs."""
+    cells_at = table.cells_at(("uid", *Winner._fields))
+    found: dict[str, list[Winner]] = {}
+    for line in table.lines:
+        uid, *cells = cells_at(line.decode().rstrip("\n").split("\t"))
+        found.setdefault(uid, []).append(Winner(*cells))
+    return found
 
 
 def trip_record_rows(
-    trip_id: bytes, uid: str, days_later: int, records: Iterable[Record]
+    trip_id: bytes,
+    uid: str,
+    days_later: int,
+    records: Iterable[Record],
+    winners: Sequence[Winner],
 ) -> Iterator[Row]:
-    """The schedules that a trip is made of, for whoever matches trains of real time."""
+    """The schedules that a trip is made of, for whoever matches trains of real time, and the published
+    ones behind these, which such messages name."""
     for record in records:
         first, last, days_run, retail = (cell.decode() for cell in record)
-        yield (trip_id.decode(), uid, first, last, days_run, days_later, retail)
+        if not winners:
+            yield (trip_id.decode(), uid, first, last, days_run, days_later, retail, "", "")
+        for winner in winners:
+            dates = winner.shared(first, last, days_run)
+            if dates:
+                published = (winner.first_date, winner.stp_indicator)
+                yield (trip_id.decode(), uid, *dates, days_later, retail, *published)

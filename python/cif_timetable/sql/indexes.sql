@@ -24,3 +24,4 @@ CREATE INDEX weekdays_weekday ON weekdays (weekday, days_run);
 CREATE INDEX trains_per_day_date ON trains_per_day (date);
 CREATE UNIQUE INDEX clock_days_train ON clock_days (train_date, midnights);
 CREATE UNIQUE INDEX associated_days_associated ON associated_days (associated_date, date_indicator);
+CREATE INDEX published_uid ON published (uid, wins_from);

@@ -452,6 +452,17 @@ def load_trains(
     return LoadedTrains(journeys.midnights, schedules.days_run, journeys.unknown())
 
 
+def load_published(database: Database, extract: Extract) -> None:
+    """Fills the table of the published schedules that decide, if the extract was prepared of such."""
+    with extract.winners() as winners:
+        if winners:
+            filler = Filler(database, "published", winners.names)
+            lines = winners.lines
+            for block in iter(lambda: lines.read(BLOCK), b""):
+                filler.add(block + lines.readline())
+            filler.flush()
+
+
 def load(
     extract: Extract,
     source: Callable[[], Source],
@@ -475,6 +486,7 @@ def load(
         for uid in (association.base_uid, association.associated_uid)
     }
     trains = load_trains(database, window, extract, given, places, linked, progress)
+    load_published(database, extract)
     load_dates(database, window, trains.midnights)
     of_associations = {association.days_run for association in associations}
     load_weekdays(database, trains.days_run | of_associations)

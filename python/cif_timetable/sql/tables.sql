@@ -190,6 +190,19 @@ CREATE TABLE associations (
     association_type text
 );
 
+-- The published schedules that decide what runs, or that nothing does (stp_indicator C), of a published extract: by uid, first_date and
+-- stp_indicator real-time messages name them. One decides on the dates from wins_from to wins_to that are of the weekdays of days_run.
+-- Where last_date is NULL its end is open.
+CREATE TABLE published (
+    uid text NOT NULL,
+    first_date date NOT NULL,
+    last_date date,
+    stp_indicator text NOT NULL,
+    wins_from date NOT NULL,
+    wins_to date NOT NULL,
+    days_run text NOT NULL
+);
+
 -- The dates of the window. `weekday` is the place of the date in days_run, from 1, Monday.
 CREATE TABLE days (
     date date PRIMARY KEY,

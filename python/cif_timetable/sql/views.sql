@@ -9,6 +9,25 @@ JOIN weekdays ON weekdays.weekday = days.weekday
 JOIN schedules ON schedules.days_run = weekdays.days_run
     AND days.date BETWEEN schedules.first_date AND schedules.last_date;
 
+-- The trains of each date, each with the published schedule that decides it.
+CREATE VIEW published_runs AS
+SELECT
+    runs.date,
+    runs.uid,
+    published.first_date,
+    published.last_date,
+    published.stp_indicator,
+    runs.identity,
+    runs.operator,
+    runs.reserved_a,
+    runs.id,
+    runs.journey
+FROM runs
+JOIN days ON days.date = runs.date
+JOIN published ON published.uid = runs.uid
+    AND runs.date BETWEEN published.wins_from AND published.wins_to
+    AND substr(published.days_run, days.weekday, 1) > '0';
+
 -- The associations of each date, which is that of the base train.
 CREATE VIEW associations_on AS
 SELECT days.date, associated_days.associated_date, associations.*
