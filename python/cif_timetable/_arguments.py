@@ -77,8 +77,11 @@ def add_reading(parser: argparse.ArgumentParser) -> None:
 def add_names(parser: argparse.ArgumentParser) -> None:
     parser.add_argument(
         "--places",
+        action="append",
+        default=[],
         metavar="FILE",
-        help="names and coordinates: a CSV file with tiploc, name, latitude, longitude",
+        help="names and coordinates: a CSV file with tiploc, name, latitude, longitude,"
+        " and perhaps station_crs; of several files the first filled cell counts",
     )
     parser.add_argument(
         "--operators", metavar="FILE", help="names of operators: operator_code, name, url"

@@ -23,7 +23,7 @@ Value = TypeVar("Value")
 # The status of `cif diff` where it finds a difference.
 DIFFERENT = 1
 # How records are joined over weeks: what `cif` takes by default.
-FORM = "2"
+FORM = "3"
 # The years of extracts, of which two digits are written.
 YEARS = range(1960, 2060)
 # What is said of dates, and not of lines.
@@ -103,6 +103,8 @@ class Extract:
         self.head: Path | None = None
         # why its dates are refused
         self.refused: CifEnded | None = None
+        # the published one that this was prepared from
+        self.published: Extract | None = None
 
     @property
     def name(self) -> str:
@@ -172,6 +174,23 @@ class Extract:
     def header(self) -> Header:
         [header] = self.rows("header", Header)
         return header
+
+    @contextmanager
+    def winners(self) -> Iterator[Table | None]:
+        """Which published schedule decides on each date, or None if it wasn't prepared from a published
+        one, or by a `cif` that doesn't say."""
+        if self.published is None or not says_winners(self.cif):
+            yield None
+            return
+        words = ["prepare", "--winners", *self.request.preparing()]
+        with self.published.answer(words) as lines:
+            yield heading_of(lines)
+
+
+def says_winners(cif: Cif) -> bool:
+    """Whether a program says which published schedule decides."""
+    with cif.output(["prepare", "--help"]) as lines:
+        return b"--winners" in lines.read()
 
 
 def tell_user(report: str) -> None:
@@ -285,7 +304,9 @@ def prepared(extract: Extract, tell: Callable[[str], None]) -> Iterator[Extract]
                 copy.write(block)
 
     with copy_by(write) as path:
-        yield Extract(extract.cif, path, extract.request, extract.source)
+        found = Extract(extract.cif, path, extract.request, extract.source)
+        found.published = extract
+        yield found
 
 
 @contextmanager

@@ -2,6 +2,7 @@
 from __future__ import annotations
 
 import os
+from collections.abc import Sequence
 from dataclasses import dataclass
 from pathlib import Path
 
@@ -21,8 +22,19 @@ class GtfsResult:
     associations_left_out: dict[str, int]
 
 
+# One file, or several of one kind.
+AnyPaths = AnyPath | Sequence[AnyPath]
+
+
 def text_of(path: AnyPath | None) -> str | None:
     return os.fspath(path) if path is not None else None
+
+
+def texts_of(paths: AnyPaths | None) -> list[str]:
+    if paths is None:
+        return []
+    several = [paths] if isinstance(paths, (str, os.PathLike)) else paths
+    return [os.fspath(path) for path in several]
 
 
 def place_of(path: AnyPath, timetable: Timetable, *others: str | None) -> Path:
@@ -36,7 +48,7 @@ def to_sqlite(
     timetable: Timetable | AnyPath,
     path: AnyPath,
     *,
-    places: AnyPath | None = None,
+    places: AnyPaths | None = None,
     operators: AnyPath | None = None,
     force: bool = False,
 ) -> None:
@@ -49,9 +61,9 @@ def to_sqlite(
     # pylint: disable-next=import-outside-toplevel,cyclic-import
     from .sql import database, sqlite_file
 
-    files = text_of(places), text_of(operators)
+    files = texts_of(places), text_of(operators)
     with opened(timetable) as found:
-        place = place_of(path, found, *files)
+        place = place_of(path, found, *files[0], files[1])
         sqlite_file.check_place(place)
         given = database.user_files(*files)
         database.make_database(extract_of(found), place, given, force, Progress(visible=False))
@@ -61,7 +73,7 @@ def to_gtfs(
     timetable: Timetable | AnyPath,
     path: AnyPath,
     *,
-    places: AnyPath | None = None,
+    places: AnyPaths | None = None,
     operators: AnyPath | None = None,
     interchange: AnyPath | None = None,
     links: AnyPath | None = None,
@@ -76,13 +88,14 @@ def to_gtfs(
     # pylint: disable-next=import-outside-toplevel,cyclic-import
     from .gtfs import command_line, conversion, trains
 
-    files = text_of(places), text_of(operators), text_of(interchange), text_of(links)
+    of_places = texts_of(places)
+    files = text_of(operators), text_of(interchange), text_of(links)
     types = trains.EXTENDED_TYPES if extended_types else trains.TYPES
     about = command_line.publisher_of(publisher, url, email)
     wishes = conversion.Wishes(types, whole_trains, about)
     with opened(timetable) as found:
-        outputs = conversion.Outputs(place_of(path, found, *files), None, None)
-        given = conversion.user_files(*files)
+        outputs = conversion.Outputs(place_of(path, found, *of_places, *files), None, None)
+        given = conversion.user_files(of_places, *files)
         progress = Progress(visible=False)
         outcome = conversion.convert(extract_of(found), given, wishes, outputs, progress)
     left_out = outcome.left_out

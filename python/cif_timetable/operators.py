@@ -8,7 +8,7 @@ from collections.abc import Mapping
 from pathlib import Path
 from typing import NamedTuple
 
-from .user_csv import Field, Key, Layout, plain_text, read_file, web_address
+from .user_csv import Field, Key, Layout, mail_address, plain_text, read_file, web_address
 
 KNOWN = Path(__file__).resolve().parent / "operators.csv"
 
@@ -19,6 +19,8 @@ class OperatorRow(NamedTuple):
     operator_code: str
     name: str
     url: str | None
+    phone: str | None = None
+    email: str | None = None
 
 
 OPERATORS = Layout(
@@ -27,6 +29,8 @@ OPERATORS = Layout(
         Field("operator_code", plain_text, needed=True),
         Field("name", plain_text, needed=True),
         Field("url", web_address),
+        Field("phone", plain_text, optional=True),
+        Field("email", mail_address, optional=True),
     ),
     ("operator_code",),
 )

@@ -6,6 +6,7 @@ import csv
 import re
 from collections.abc import Callable, Iterator, Sequence
 from dataclasses import dataclass
+from datetime import date
 from typing import IO, Generic, NamedTuple, TypeVar
 
 from .errors import Refused
@@ -72,6 +73,27 @@ def crs_code(value: str) -> str:
     return value
 
 
+def iso_date(value: str) -> date:
+    try:
+        if not re.fullmatch(r"[0-9]{4}-[0-9]{2}-[0-9]{2}", value):
+            raise ValueError
+        return date.fromisoformat(value)
+    except ValueError:
+        raise Mistake("isn't a date YYYY-MM-DD") from None
+
+
+def time_of_day(value: str) -> str:
+    if not re.fullmatch(r"([01][0-9]|2[0-3])[0-5][0-9]", value):
+        raise Mistake("isn't a time HHMM")
+    return value
+
+
+def weekdays(value: str) -> str:
+    if not re.fullmatch(r"[01]{7}", value):
+        raise Mistake("isn't seven digits 0 and 1, Monday first")
+    return value
+
+
 def name_of_publisher(value: str) -> str:
     if not value.strip():
         raise Mistake("is empty")
@@ -100,11 +122,13 @@ def mail_address(value: str) -> str:
 
 
 class Field(NamedTuple):
-    """A field by its name: what reads its values, and whether each row has to have one."""
+    """A field by its name: what reads its values, whether each row has to have one, and whether a
+    file may be without the field."""
 
     name: str
     read: Callable[[str], object]
     needed: bool = False
+    optional: bool = False
 
 
 def nothing_wrong(_row: object) -> Iterator[str]:
@@ -114,12 +138,14 @@ def nothing_wrong(_row: object) -> Iterator[str]:
 @dataclass(frozen=True)
 class Layout(Generic[Row]):
     """A sort of file: what its rows become, their fields, those fields that tell one row from
-    another, and what may be wrong with a row whose values are right each by itself."""
+    another, what may be wrong with a row whose values are right each by itself, and which fields
+    have to be different."""
 
     row: Callable[..., Row]
     fields: Sequence[Field]
     key: Sequence[str]
     mistakes: Callable[[Row], Iterator[str]] = nothing_wrong
+    apart: Sequence[str] = ()
 
 
 Key = tuple[object, ...]
@@ -192,7 +218,8 @@ class Reader(Generic[Row]):
 
     def is_heading(self, names: Sequence[str]) -> bool:
         fields = [field.name for field in self.layout.fields]
-        wrong = [f"the field {name} is missing" for name in fields if name not in names]
+        needed = [field.name for field in self.layout.fields if not field.optional]
+        wrong = [f"the field {name} is missing" for name in needed if name not in names]
         wrong += [f"the field {name} is a duplicate" for name in fields if names.count(name) > 1]
         self.mistakes += [(1, mistake) for mistake in wrong]
         return not wrong
@@ -206,11 +233,13 @@ class Reader(Generic[Row]):
         known = len(self.mistakes)
         given = dict(zip(names, cells))
         values = {
-            field.name: self.value(line, field, given[field.name]) for field in self.layout.fields
+            field.name: self.value(line, field, given.get(field.name, ""))
+            for field in self.layout.fields
         }
         key = tuple(values[name] for name in self.layout.key)
-        if None not in key:
-            self.check_key(line, key)
+        needed = {field.name for field in self.layout.fields if field.needed}
+        if all(values[name] is not None for name in needed.intersection(self.layout.key)):
+            self.check_key(line, key, [values[name] for name in self.layout.apart])
         if len(self.mistakes) == known:
             row = self.layout.row(**values)
             self.mistakes += [(line, mistake) for mistake in self.layout.mistakes(row)]
@@ -229,14 +258,14 @@ class Reader(Generic[Row]):
             self.mistakes.append((line, f"{field.name} {shown(cell)} {mistake}"))
             return None
 
-    def check_key(self, line: int, key: Key) -> None:
+    def check_key(self, line: int, key: Key, apart: Sequence[object]) -> None:
         if key in self.line_of:
-            names = ", ".join(map(str, key))
+            names = ", ".join(str(each) for each in key if each is not None)
             self.mistakes.append(
                 (line, f"{names} is a duplicate: line {self.line_of[key]} has it too")
             )
-        if len(set(key)) < len(key):
-            self.mistakes.append((line, f"{' and '.join(self.layout.key)} are the same"))
+        if len(set(apart)) < len(apart):
+            self.mistakes.append((line, f"{' and '.join(self.layout.apart)} are the same"))
         self.line_of.setdefault(key, line)
 
 

@@ -65,7 +65,7 @@ class UserFiles(InFolder):
 
     def test_rows(self) -> None:
         rows = self.read("name,further,tiploc,latitude,longitude\nHove,x,HOVE,50.8,-0.1\n")
-        self.assertEqual([("HOVE", "Hove", 50.8, -0.1)], rows)
+        self.assertEqual([("HOVE", "Hove", 50.8, -0.1, None)], rows)
 
     def test_mistakes_have_lines(self) -> None:
         heading = "tiploc,name,latitude,longitude\n"

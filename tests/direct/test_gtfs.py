@@ -11,7 +11,8 @@ from cif_timetable.days import Window
 from cif_timetable.gtfs.calls import Stop, row_at, rounded_up
 from cif_timetable.gtfs.parts import Index, Part, Schedules, parts_of
 from cif_timetable.gtfs.services import Services
-from cif_timetable.gtfs.trains import EXTENDED_TYPES, Kind, Sort, kind_of
+from cif_timetable.gtfs.trains import EXTENDED_TYPES, Fields, Kind, kind_of
+from cif_timetable.gtfs.user_files import LinkRow, minutes_of
 from cif_timetable.riders import is_for_riders
 
 # 28 days from a Monday on.
@@ -103,20 +104,27 @@ class KindsOfTrains(unittest.TestCase):
 
     def test_sleepers(self) -> None:
         for sleepers in "BFS":
-            kind = kind_of(Sort("P", "XX", sleepers))
+            kind = kind_of(Fields("P", "XX", sleepers, ""))
             self.assertEqual((Kind.SLEEPER, 105), (kind, EXTENDED_TYPES[kind]), sleepers)
-        self.assertEqual(Kind.SLEEPER, kind_of(Sort("P", "XZ", "")))
-        self.assertEqual(Kind.RAIL, kind_of(Sort("P", "XX", "")))
+        self.assertEqual(Kind.SLEEPER, kind_of(Fields("P", "XZ", "", "")))
+        self.assertEqual(Kind.RAIL, kind_of(Fields("P", "XX", "", "")))
 
     def test_others(self) -> None:
-        self.assertEqual(714, EXTENDED_TYPES[kind_of(Sort("B", "BR", ""))])
-        self.assertEqual(Kind.BUS, kind_of(Sort("5", "BS", "")))
-        self.assertEqual(Kind.SHIP, kind_of(Sort("S", "SS", "")))
-        self.assertEqual(Kind.METRO, kind_of(Sort("P", "OL", "")))
+        self.assertEqual(714, EXTENDED_TYPES[kind_of(Fields("B", "BR", "", ""))])
+        self.assertEqual(Kind.BUS, kind_of(Fields("5", "BS", "", "")))
+        self.assertEqual(Kind.SHIP, kind_of(Fields("S", "SS", "", "")))
+        self.assertEqual(Kind.METRO, kind_of(Fields("P", "OL", "", "")))
 
     def test_who_may_ride(self) -> None:
         self.assertTrue(is_for_riders("P", "OO"))
-        for status, category in (("F", "XX"), ("P", "EE"), ("P", "H2"), ("T", "")):
+        for status, category in (
+            ("F", "XX"),
+            ("P", "EE"),
+            ("P", "OU"),
+            ("P", "XU"),
+            ("P", "H2"),
+            ("T", ""),
+        ):
             self.assertFalse(is_for_riders(status, category), (status, category))
 
 
@@ -136,3 +144,44 @@ class TimesOfStops(unittest.TestCase):
         after = b"B\t1\t00:10:00\t00:12:00\t0\t0\n"
         row = row_at(Stop("1", "LO", "A", "", "2", "", "0005"), None, after)
         self.assertEqual(b"A\t2\t00:05:00\t00:05:00\t1\t1\n", row)
+
+
+def link(
+    minutes: int,
+    first: str | None = None,
+    last: str | None = None,
+    days_run: str | None = None,
+    begins: str | None = None,
+    ends: str | None = None,
+) -> LinkRow:
+    first_date, last_date = (date.fromisoformat(day) if day else None for day in (first, last))
+    return LinkRow("EUS", "VIC", minutes, first_date, last_date, days_run, begins, ends)
+
+
+class Links(unittest.TestCase):
+    """Which link of several counts, from 4 December 2026 to 4 December 2027."""
+
+    WINDOW = (date(2026, 12, 4), date(2027, 12, 4))
+
+    def test_minutes(self) -> None:
+        """The shortest of those that hold, or else the longest."""
+        for links, wanted in (
+            ([link(9, days_run="1111110"), link(12, begins="0700", ends="2200"), link(20)], 12),
+            ([link(9, begins="0701"), link(8, ends="2159")], 9),
+            ([link(5, "2026-12-05"), link(7, last="2027-12-03")], 7),
+            ([link(5, "2026-12-04", "2027-12-04"), link(7)], 5),
+            ([link(5), link(7, days_run="0000001")], 5),
+            ([link(7, days_run="0000001"), link(6, "2027-01-01")], 7),
+        ):
+            with self.subTest(links):
+                self.assertEqual(wanted, minutes_of(links, *self.WINDOW))
+
+    def test_window(self) -> None:
+        for when, wanted in (
+            ((None, "2026-12-03"), False),
+            ((None, "2026-12-04"), True),
+            (("2027-12-04", None), True),
+            (("2027-12-05", None), False),
+        ):
+            with self.subTest(when):
+                self.assertEqual(wanted, link(5, *when).is_in(*self.WINDOW))

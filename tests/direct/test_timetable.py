@@ -234,7 +234,7 @@ class Asking(unittest.TestCase):
             thread.start()
         for thread in threads:
             thread.join()
-        self.assertEqual([120] * 4, found)
+        self.assertEqual([96] * 4, found)
 
     def test_uids(self) -> None:
         self.assertEqual({}, self.timetable.calendar("-xxxxx"))

@@ -92,9 +92,9 @@ KINDS = (
     ("sleeper", "category", ("XZ",)),
     ("sleeper", "sleepers", ("B", "F", "S")),
 )
-# What isn't for riders: by the category empty stock, staff, post, departmental trains, light locomotives, and freight with its
+# What isn't for riders: by the category empty stock, staff, unadvertised trains, post, departmental trains, light locomotives, and freight with its
 # digits; by the status freight.
-NO_RIDERS = re.compile(r"E[ELS]|OS|JJ|P[MPV]|D[DHIQTY]|Z[BZ]|.*[0-9].*")
+NO_RIDERS = re.compile(r"E[ELS]|O[SU]|XU|JJ|P[MPV]|D[DHIQTY]|Z[BZ]|.*[0-9].*")
 
 
 def kind_of(row: Row) -> str:
@@ -107,10 +107,17 @@ def is_for_riders(row: Row) -> bool:
 
 
 class Train:
-    """A train on a date: its row of `schedules`, and its calls as the rows of `day` have them."""
+    """A train on a date: its row of `schedules`, the categories that it has from calls on, and its calls as the rows of `day` have
+    them. The row has the first category that is for riders, if there is one."""
 
-    def __init__(self, row: Row) -> None:
-        self.row = row
+    def __init__(self, row: Row, changes: List[Tuple[int, str]]) -> None:
+        self.sorts = [
+            (number, is_for_riders({**row, "category": category}))
+            for number, category in [(0, row["category"]), *changes]
+        ]
+        categories = [row["category"], *(category for _, category in changes)]
+        for_riders = (each for each in categories if is_for_riders({**row, "category": each}))
+        self.row = {**row, "category": next(for_riders, row["category"])}
         self.stops: List[Stop] = []
         # its public calls, and by their numbers these and its stops where it has associations on any date
         self.calls: List[Call] = []
@@ -136,6 +143,19 @@ class Train:
             )
             for number, location, platform, arrival, departure, set_down, pick_up in rows
         ]
+
+    def for_riders(self) -> List[Call]:
+        """Its public calls where it is for riders when it arrives, so they get off, or when it leaves, so they get on."""
+        if len({flag for _, flag in self.sorts}) == 1:
+            return self.public() if self.sorts[0][1] else []
+        found = []
+        for call in self.public():
+            [*_, before] = [flag for number, flag in self.sorts if number < call.number]
+            [*_, after] = [flag for number, flag in self.sorts if number <= call.number]
+            set_down, pick_up = call.set_down if before else "1", call.pick_up if after else "1"
+            if (set_down, pick_up) != ("1", "1"):
+                found.append(call._replace(set_down=set_down, pick_up=pick_up))
+        return found
 
     def stop(self, location: str, suffix: str, record: Optional[str]) -> Optional[Stop]:
         """Its first stop there, of a sort or of any: a call with a working arrival or departure, or a public one."""
@@ -164,7 +184,13 @@ class Train:
 class Day:
     """The public trains and the associations of a date."""
 
-    def __init__(self, source: Source, day: date, schedules: DefaultDict[str, List[Row]]) -> None:
+    def __init__(
+        self,
+        source: Source,
+        day: date,
+        schedules: DefaultDict[str, List[Row]],
+        changes: DefaultDict[str, List[Tuple[int, str]]],
+    ) -> None:
         self.trains: Dict[str, Train] = {}
         self.associations: List[Row] = []
         for row in table_rows(source.lines("day", "--stops", "--format", "tsv", f"{day:%y%m%d}")):
@@ -172,12 +198,13 @@ class Day:
                 self.associations.append(row)
             else:
                 if row["uid"] not in self.trains:
-                    self.trains[row["uid"]] = Train(applying(schedules[row["uid"]], day))
+                    schedule = applying(schedules[row["uid"]], day)
+                    self.trains[row["uid"]] = Train(schedule, changes[schedule["schedule"]])
                 self.trains[row["uid"]].add(row)
+        with_calls = [train for train in self.trains.values() if len(train.public()) > 1]
         for train in self.trains.values():
-            train.calls = train.public()
-        with_calls = {uid: train for uid, train in self.trains.items() if len(train.calls) > 1}
-        self.public = {uid: train for uid, train in with_calls.items() if is_for_riders(train.row)}
+            train.calls = train.for_riders()
+        self.public = {uid: train for uid, train in self.trains.items() if len(train.calls) > 1}
         self.not_for_riders = len(with_calls) - len(self.public)
 
 
@@ -199,12 +226,14 @@ def applying(rows: List[Row], day: date) -> Row:
 def days_of(source: Source) -> Days:
     """All days of the window."""
     [header] = table_rows(source.lines("table", "header"))
-    schedules = defaultdict(list)
-    for row in table_rows(source.lines("table", "schedules")):
+    schedules, changes = defaultdict(list), defaultdict(list)
+    for row in table_rows(source.lines("table", "--form", "3", "schedules")):
         schedules[row["uid"]].append(row)
+    for row in table_rows(source.lines("table", "--form", "3", "changes")):
+        changes[row["schedule"]].append((int(row["call"]), row["category"]))
     first, last = (date.fromisoformat(header[name]) for name in ("first_date", "last_date"))
     dates = [first + timedelta(days=number) for number in range((last - first).days + 1)]
-    days = {day: Day(source, day, schedules) for day in dates}
+    days = {day: Day(source, day, schedules, changes) for day in dates}
     spots = defaultdict(set)
     for day in days:
         for held in held_on(days, day):

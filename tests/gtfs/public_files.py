@@ -83,7 +83,14 @@ ONGRID,On the grid,52.65798,1.71605
 ZERO,Zero,,
 ZEROS,Zeros,,
 """
-LINKS = "from,to,minutes\nEUS,KGX,12\nEUS,WAT,25\nKGX,EUS,10\nWAT,EUS,25\n"
+LINKS = """\
+from,to,minutes,first_date,last_date,days_run,first_time,last_time
+EUS,KGX,10,,,1111111,0001,2359
+EUS,KGX,12,2026-02-01,2026-03-02,1111100,0600,2359
+EUS,WAT,25,,,1111100,0600,2359
+KGX,EUS,10,,,1111111,0001,2359
+WAT,EUS,25,,,1111100,0600,2359
+"""
 
 # A point whose coordinates the Ordnance Survey's guide to its grid has, from memory: on the grid, and on the grid's datum.
 POINT, ON_AIRY = (651409.903, 313177.270), (
@@ -101,21 +108,94 @@ def with_record(
     return "\n".join([*MSN, master("HOVE", tiploc, crs, easting, northing, minutes)])
 
 
+NO_COORDINATES = "places without coordinates, as these can't be read"
+LEFT_OUT = "lines left out, as they can't be read"
+
+# What has a line, or several, that can't be read: the place of a station, which it is without, or all of it, so it is left out.
+ODD: Dict[str, Tuple[Tuple[str, str, str], ...]] = {
+    "naptan-places": (
+        *(
+            (
+                NAPTAN + f"9100HOVE,,Hove,,UKOS,{row},RLY\n",
+                f"{NO_COORDINATES}: 1 (line 10)",
+                "HOVE,Hove,,",
+            )
+            for row in (
+                ",,-0.2,ninety",
+                ",,-0.2,",
+                "1,east,,",
+                ",,-.5,0.5",
+                ",,3,-89",
+                "700000,1,,",
+                "1,1300000,,",
+                "9999999,9999999,,",
+                "0,1,,",
+                "1,0.0,,",
+            )
+        ),
+        *(
+            (NAPTAN + row, f"{LEFT_OUT}: 1 (line 10)", "")
+            for row in (
+                "9100HOVE,,Hove\n",
+                '9100HOVE,,"Ho\nve",,,,,,,RLY\n',
+                "9100HOVE,,Ho\tve,,,,,,,RLY\n",
+                "9100HO\tVE,,Hove,,,,,,,RLY\n",
+                "9100,,Hove,,,,,,,RLY\n",
+            )
+        ),
+        (
+            NAPTAN + '0100BRP1,,"A\nstop",,,,,,,\n9100HOVE,,Hove,"1\n2",,,,-0.2,ninety,RLY\n',
+            f"{NO_COORDINATES}: 1 (line 12)",
+            "HOVE,Hove,,",
+        ),
+        (
+            NAPTAN + "9100HOVE,,Hove\n" * 22,
+            f"{LEFT_OUT}: 22 (lines {', '.join(map(str, range(10, 30)))} and 2 more)",
+            "",
+        ),
+    ),
+    "msn-places": (
+        (with_record("", "HOV", "15288", "61055", 5), f"{LEFT_OUT}: 1 (line 8)", ""),
+        (
+            with_record("HOVE", "HOV", "15288", "61055", 5).replace("HOVE ", "HO\tVE", 1),
+            f"{LEFT_OUT}: 1 (line 8)",
+            "",
+        ),
+        (
+            with_record("-", "HOV", "00000", "00000", 5) + "\n-\n0",
+            f"{LEFT_OUT}: 2 (lines 9, 10)",
+            "-,Hove,,,HOV",
+        ),
+        *(
+            (
+                with_record("HOVE", "HOV", easting, northing, minutes),
+                f"{NO_COORDINATES}: 1 (line 8)",
+                "HOVE,Hove,,,HOV",
+            )
+            for easting, northing, minutes in (
+                ("25288", "61055", ""),
+                ("15288", "6105", "5"),
+                ("15288", "73001", "5"),
+                ("00000", "69999", "5"),
+                ("15288", "60000", "5"),
+            )
+        ),
+        (with_record("HOVE", "H", "00000", "00000", ""), "", "HOVE,Hove,,,"),
+    ),
+    "msn-interchange": (
+        (with_record("HOVE", "H", "15288", "61055", 5), f"{LEFT_OUT}: 1 (line 8)", ""),
+        (with_record("HOVE", "HOV", "15288", "61055", ""), f"{LEFT_OUT}: 1 (line 8)", ""),
+        (with_record("", "HOV", "00000", "69999", 5), "", "HOV,5"),
+    ),
+    "alf-links": (),
+}
+
 BAD = {
     "naptan-places": (
         (
             "ATCOCode,CommonName,Longitude\n",
             "line 1: the field Latitude is missing or a duplicate",
         ),
-        (
-            NAPTAN + "9100HOVE,,Hove,,,,,-0.2,ninety,RLY\n",
-            "line 10: Latitude `ninety` isn't a number of degrees from -90 to 90",
-        ),
-        (
-            NAPTAN + "9100HOVE,,Hove,,,,,-0.2,,RLY\n",
-            "line 10: one of Longitude and Latitude is missing",
-        ),
-        (NAPTAN + "9100HOVE,,Hove\n", "line 10: 3 fields, and the first line has 10"),
         (
             NAPTAN + '0100BRP1,,"A stop,,,,,,,\n9100HOVE,,Hove,,,,,,,RLY\n',
             "line 10: this is no CSV: unexpected end of data",
@@ -124,81 +204,37 @@ BAD = {
             NAPTAN + '0100BRP1,,"A stop,,,,,,,\n' + "0100BRP2,,A stop,,,,,,,\n" * 6000,
             "line 10: this is no CSV: field larger than field limit (131072)",
         ),
-        (
-            NAPTAN + "9100HOVE,,Hove,,,1,east,,,RLY\n",
-            "line 10: Northing `east` isn't a number of metres",
-        ),
-        (
-            NAPTAN + '0100BRP1,,"A\nstop",,,,,,,\n9100HOVE,,Hove,"1\n2",,,,-0.2,ninety,RLY\n',
-            "line 12: Latitude `ninety` isn't a number of degrees from -90 to 90",
-        ),
-        (
-            NAPTAN + '9100HOVE,,"Ho\nve",,,,,,,RLY\n',
-            "line 10: CommonName `Ho?ve` has a line break or another control character",
-        ),
-        (
-            NAPTAN + "9100HOVE,,Ho\tve,,,,,,,RLY\n",
-            "line 10: CommonName `Ho?ve` has a line break or another control character",
-        ),
-        (
-            NAPTAN + "9100HO\tVE,,Hove,,,,,,,RLY\n",
-            "line 10: ATCOCode `9100HO?VE` has a line break or another control character",
-        ),
-        (NAPTAN + "9100,,Hove,,,,,,,RLY\n", "line 10: the TIPLOC is missing"),
-        (
-            NAPTAN + "9100HOVE,,Hove,,,,,-.5,0.5,RLY\n",
-            "line 10: `0.5`, `-0.5` is near 0, 0, where no railway is",
-        ),
-        (NAPTAN + "9100HOVE,,Hove,,,,,3,-89,RLY\n", "line 10: latitude `-89` is at a pole"),
-        *(
-            (
-                NAPTAN + f"9100HOVE,,Hove,,UKOS,{easting},{northing},,,RLY\n",
-                f"line 10: {what} isn't on the grid, which ends at {end}",
-            )
-            for easting, northing, what, end in (
-                ("700000", "1", "Easting `700000`", 700000),
-                ("1", "1300000", "Northing `1300000`", 1300000),
-                ("9999999", "9999999", "Easting `9999999`", 700000),
-                ("0", "1", "Easting `0`", 700000),
-                ("1", "0.0", "Northing `0.0`", 1300000),
-            )
-        ),
     ),
     "msn-places": (
-        (with_record("", "HOV", "15288", "61055", 5), "line 8: the TIPLOC is missing"),
-        (
-            with_record("HOVE", "HOV", "25288", "61055", 5),
-            "line 8: easting `25288` isn't 1 and four digits",
-        ),
-        (
-            with_record("HOVE", "HOV", "15288", "6105", 5),
-            "line 8: northing `6105` isn't 6 and four digits",
-        ),
-        (
-            with_record("HOVE", "HOV", "15288", "61055", 5).replace("HOVE ", "HO\tVE", 1),
-            "line 8: name `HO?VE` has a line break or another control character",
-        ),
-        (NAPTAN, "line 1: no record of MSN begins so"),
-        (HEADER + ASSOCIATION, "line 2: no record of MSN begins so"),
+        (NAPTAN, "this is no MSN: it has no record A"),
+        (HEADER + ASSOCIATION, "this is no MSN: it has no record A"),
         (HEADER, "this is no MSN: it has no record A"),
     ),
-    "msn-interchange": (
-        (
-            with_record("HOVE", "H", "15288", "61055", 5),
-            "line 8: CRS code `H` isn't three letters or digits",
-        ),
-        (
-            with_record("HOVE", "HOV", "15288", "61055", ""),
-            "line 8: minimum time of change `` isn't one or two digits",
-        ),
-    ),
+    "msn-interchange": ((HEADER, "this is no MSN: it has no record A"),),
     "alf-links": (
         (ALF + "M=WALK,O=EUS,T=10\n", "line 7: D= isn't a CRS code"),
         (ALF + "M=WALK,O=EUS,D=KGX,T=ten\n", "line 7: T= isn't minutes"),
+        (ALF + "M=WALK,O=EUS,D=KGX,T=10,S=2460\n", "line 7: S= isn't a time HHMM"),
+        (ALF + "M=WALK,O=EUS,D=KGX,T=10,R=11111\n", "line 7: R= isn't seven weekdays"),
+        (ALF + "M=WALK,O=EUS,D=KGX,T=10,U=31/02/2026\n", "line 7: U= isn't a date DD/MM/YYYY"),
         ("", "this is no ALF: it has no link"),
         ("/!! a remark\n\n", "this is no ALF: it has no link"),
     ),
 }
+
+
+def check_odd(counts: Counts, maker: Maker, kind: str, plain: str) -> None:
+    """What can't be read of a file is told by its line, and the rest is as it is without."""
+    for text, told, row in ODD[kind]:
+        (maker.folder / "odd").write_text(text)
+        done = maker.run(kind, "odd", program="cif-gtfs-csv")
+        further = set(done.stdout.splitlines()) - set(plain.splitlines())
+        counts.same(f"{kind}, {text[-40:]!r}, status", 0, done.returncode)
+        want = f"cif-gtfs-csv: odd: {told}\n" if told else ""
+        counts.same(f"{kind}, {text[-40:]!r}, told", want, done.stderr)
+        counts.same(f"{kind}, {text[-40:]!r}, rows", {row} - {""}, further)
+        lacking = set(plain.splitlines()) - set(done.stdout.splitlines())
+        counts.same(f"{kind}, {text[-40:]!r}, what is lost", set(), lacking)
 
 
 def check_places_of_master(counts: Counts, text: str) -> None:
@@ -237,6 +273,7 @@ def check(counts: Counts, maker: Maker) -> None:
         done = maker.run(kind, kind, program="cif-gtfs-csv")
         counts.same(f"{kind}, status and told", (0, ""), (done.returncode, done.stderr))
         outputs[kind] = done.stdout
+        check_odd(counts, maker, kind, done.stdout)
         for bad, told in BAD[kind]:
             (maker.folder / "bad").write_text(bad)
             done = maker.run(kind, "bad", program="cif-gtfs-csv")

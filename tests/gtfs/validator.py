@@ -26,6 +26,7 @@ ERROR, WARNING = "ERROR", "WARNING"
 WEEKDAYS = ("monday", "tuesday", "wednesday", "thursday", "friday", "saturday", "sunday")
 DATE, TIME = r"(19|20)\d\d(0[1-9]|1[0-2])(0[1-9]|[12]\d|3[01])", r"\d{2,3}:[0-5]\d:[0-5]\d"
 ANY, WEB, WHOLE, DEGREES = r"(?s).+", r"https?://[^\s/]+\.\S+", r"\d+", r"-?\d+(\.\d+)?"
+MAIL = r"[^\s@]+@[^\s@]+\.[^\s@]+"
 TYPES = "0|1|2|3|4|5|6|7|11|12|1\\d\\d|714"
 
 # Of each file the fields that have to have a value, and those that may, with their forms; and its key.
@@ -49,15 +50,19 @@ REQUIRED: Dict[str, Dict[str, str]] = {
     "calendar_dates": {"service_id": ANY, "date": DATE, "exception_type": "1|2"},
     "transfers": {"transfer_type": "[0-5]"},
     "feed_info": {"feed_publisher_name": ANY, "feed_publisher_url": WEB, "feed_lang": "[a-z]{2}"},
+    "attributions": {"organization_name": ANY},
 }
 OPTIONAL: Dict[str, Dict[str, str]] = {
-    "agency": {"agency_lang": "[a-z]{2}"},
+    "agency": {"agency_lang": "[a-z]{2}", "agency_phone": ANY, "agency_email": MAIL},
     "stops": {
         **{"stop_code": ANY, "stop_lat": DEGREES, "stop_lon": DEGREES, "location_type": "[0-4]"},
         **{"parent_station": ANY, "platform_code": ANY},
     },
     "routes": {"route_short_name": ANY, "route_long_name": ANY},
-    "trips": {"trip_headsign": ANY, "trip_short_name": ANY, "direction_id": "0|1", "block_id": ANY},
+    "trips": {
+        **{"trip_headsign": ANY, "trip_short_name": ANY, "direction_id": "0|1", "block_id": ANY},
+        "bikes_allowed": "[0-2]",
+    },
     "stop_times": {
         "arrival_time": TIME,
         "departure_time": TIME,
@@ -69,6 +74,10 @@ OPTIONAL: Dict[str, Dict[str, str]] = {
     "transfers": {
         **{"from_stop_id": ANY, "to_stop_id": ANY, "from_trip_id": ANY, "to_trip_id": ANY},
         "min_transfer_time": WHOLE,
+    },
+    "attributions": {
+        **{"attribution_id": ANY, "attribution_url": WEB},
+        **dict.fromkeys(("is_producer", "is_operator", "is_authority"), "0|1"),
     },
     "feed_info": {
         **{
@@ -93,6 +102,7 @@ KEYS: Dict[str, Tuple[str, ...]] = {
         "calendar_dates": ("service_id", "date"),
     },
     **{"transfers": ("from_stop_id", "to_stop_id", "from_trip_id", "to_trip_id"), "feed_info": ()},
+    "attributions": ("attribution_id",),
 }
 REFERENCES = (
     ("routes", "agency_id", "agency", "agency_id"),
@@ -113,6 +123,7 @@ MIXED_CASE = {
 }
 OUTSIDE_RANGE = {"stop_lat": 90, "stop_lon": 180}
 STOP, STATION = ("", "0"), "1"
+OPTIONAL_FILES = {"calendar_dates", "transfers", "attributions"}
 IN_SEAT = ("4", "5")
 # The fastest that the validator takes for possible, in km/h, and the greatest distance of a transfer, in km.
 FASTEST = {"1": 150, "2": 500, "3": 150, "4": 80}
@@ -152,7 +163,7 @@ class Feed:
 
 
 def check_files(feed: Feed) -> None:
-    for name in REQUIRED.keys() - feed.rows.keys() - {"calendar_dates", "transfers"}:
+    for name in REQUIRED.keys() - feed.rows.keys() - OPTIONAL_FILES:
         feed.note(ERROR, "missing_required_file", name)
     for name in feed.rows.keys() - REQUIRED.keys():
         feed.note(WARNING, "unknown_file", name)
@@ -178,6 +189,9 @@ def check_fields(feed: Feed) -> None:
             *(field for field, count in Counter(heading).items() if count > 1),
         )
         for row in rows:
+            roles = [row.get(role) for role in ("is_producer", "is_operator", "is_authority")]
+            if name == "attributions" and "1" not in roles:
+                feed.note(WARNING, "attribution_without_role", row)
             if None in row or None in row.values():
                 feed.note(ERROR, "invalid_row_length", f"{name}: {row}")
                 continue

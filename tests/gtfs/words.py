@@ -63,7 +63,7 @@ def options_of_fish(text: str) -> Set[str]:
 
 
 def options_of_zsh(text: str) -> Set[str]:
-    return {option.rstrip("=+") for option in re.findall(r"['{,](--?[a-zA-Z][a-z-]*[=+]?)", text)}
+    return {option.rstrip("=+") for option in re.findall(r"['{,*](--?[a-zA-Z][a-z-]*[=+]?)", text)}
 
 
 def offered(line: str) -> List[str]:

@@ -13,7 +13,10 @@ from gtfs.definition import seconds_of
 
 from .definition import RENAMED, Expected, SqlRow
 
-BOARD = "crs, date, time, train_date, uid, identity, operator, platform, {end}, pick_up, set_down, location"
+BOARD = (
+    "station_crs, crs, date, time, train_date, uid, identity, operator, category, status, as_required,"
+    " platform, origin, destination, pick_up, set_down, location, number"
+)
 
 # What gives the rows of a query.
 Query = Callable[[str], List[SqlRow]]
@@ -109,6 +112,11 @@ def check_fields(counts: Counts, name: str, expected: Expected, rows: Query) -> 
         "WHERE journeys.uid <> schedules.uid"
     )
     counts.same(f"{name}, journeys of another train", [], wrong)
+    query = "SELECT uid, first_date, passenger, as_required FROM schedules"
+    same_rows(counts, f"{name}, sorts of schedules", expected.sorts_of_schedules(), rows(query))
+    query = "SELECT schedules.uid, schedules.first_date, number, get_off, get_on, public_calls.passenger FROM schedules "
+    query += "JOIN public_calls ON public_calls.journey = schedules.journey"
+    same_rows(counts, f"{name}, calls for riders", expected.riders_calls(), rows(query))
     query = "SELECT arrival_seconds, departure_seconds, pass_seconds FROM calls"
     same_rows(counts, f"{name}, working times", expected.working_seconds(), rows(query))
     times = rows("SELECT arrival, departure, arrival_seconds, departure_seconds FROM public_calls")
@@ -149,20 +157,17 @@ def check_dates(counts: Counts, name: str, expected: Expected, rows: Query) -> N
     same_rows(counts, f"{name}, associations_on", associations, got)
     days = [(day.isoformat(), str(day.isoweekday())) for day in expected.dates]
     counts.same(f"{name}, days", days, rows("SELECT date, weekday FROM days ORDER BY date"))
-    got = rows("SELECT date, operator, passenger, trains FROM trains_per_day")
+    got = rows("SELECT date, operator, passenger, as_required, trains FROM trains_per_day")
     same_rows(counts, f"{name}, trains_per_day", expected.trains_per_day(), got)
     got = rows("SELECT date, uid, number, location FROM calls_on")
     same_rows(counts, f"{name}, calls_on", expected.calls_on, got)
 
 
 def check_boards(counts: Counts, name: str, expected: Expected, rows: Query) -> None:
-    for view, want, end in (
-        ("departures", expected.departures, "destination"),
-        ("arrivals", expected.arrivals, "origin"),
-    ):
-        got = rows(f"SELECT {BOARD.format(end=end)} FROM {view}")
+    for view, want in ("departures", expected.departures), ("arrivals", expected.arrivals):
+        got = rows(f"SELECT {BOARD} FROM {view}")
         same_rows(counts, f"{name}, {view}", want, got)
-        later = sum(str(row[1]) > str(row[3]) for row in want)
+        later = sum(str(row[2]) > str(row[4]) for row in want)
         counts.test(f"{name}, {view} after midnight", later > 0)
 
 

@@ -10,6 +10,8 @@ from gtfs.checks import Source
 from gtfs.definition import Row, is_for_riders, seconds_of, table_rows
 
 DAY = 86400
+# The form with the fewest rows of schedules.
+FORM = "3"
 TABLES = ("header", "tiplocs", "associations", "schedules", "calls", "changes", "public")
 # The fields of `cif table` that have another name in the database.
 RENAMED = {"operator_code": "operator", "call": "number"}
@@ -18,9 +20,11 @@ ASSOCIATION = {
     "location": "association_location",
 }
 
-# A row of a query, each value as a text or None; and what makes a journey another one: its train, its calls, and its changes.
+# A row of a query, each value as a text or None; and what makes a journey another one: its train, its calls, its changes, and whether
+# it is for riders.
 SqlRow = Tuple[Optional[str], ...]
-Journey = Tuple[str, Tuple[Tuple[str, ...], ...], Tuple[Tuple[str, ...], ...]]
+Cells = Tuple[Tuple[str, ...], ...]
+Journey = Tuple[str, Cells, Cells, Tuple[bool, ...]]
 
 
 def or_none(text: str) -> Optional[str]:
@@ -36,14 +40,21 @@ def seconds_by_clock(time: str) -> Optional[str]:
     return str(seconds_of(f"{time[:2]}:{time[2:4]}:{'30' if time[4:] else '00'}")) if time else None
 
 
+def as_required(row: Row) -> str:
+    """Whether a train may run, and needn't: it has the characteristic Q or Y."""
+    return str(int("Q" in row["characteristics"] or "Y" in row["characteristics"]))
+
+
 class Expected:
     """The rows that the queries of checks.py have to give, in no order."""
 
     def __init__(self, source: Source) -> None:
         self.source = source
-        self.tables = {name: table_rows(source.lines("table", name)) for name in TABLES}
+        self.tables = {
+            name: table_rows(source.lines("table", "--form", FORM, name)) for name in TABLES
+        }
         self.names = {
-            name: source.lines("table", name)[0].split("\t")
+            name: source.lines("table", "--form", FORM, name)[0].split("\t")
             for name in ("schedules", "calls", "changes", "public")
         }
         [self.header] = self.tables["header"]
@@ -85,8 +96,46 @@ class Expected:
                 tuple(tuple(call.values())[1:] for call in self.of_schedule[name][number])
                 for name in ("calls", "changes")
             )
-            found[row["uid"], calls, changes] = self.of_schedule["calls"][number]
+            for_riders = tuple(
+                is_for_riders({**row, "category": category}) for _, category in self.sorts(number)
+            )
+            found[row["uid"], calls, changes, for_riders] = self.of_schedule["calls"][number]
         return found
+
+    def sorts(self, number: str) -> List[Tuple[int, str]]:
+        """The categories of a schedule, each with the number of the call from which on it counts."""
+        changes = [
+            (int(row["call"]), row["category"]) for row in self.of_schedule["changes"][number]
+        ]
+        return [(0, self.schedules[number]["category"]), *changes]
+
+    def riders(self, number: str, call: Row) -> Tuple[bool, bool]:
+        """Whether riders may get off at a public call, and whether they may get on: a train arrives
+        as what it was before a change, and leaves as what it is after it."""
+        at, row = int(call["call"]), self.schedules[number]
+        [*_, before] = [category for first, category in self.sorts(number) if first < at]
+        [*_, after] = [category for first, category in self.sorts(number) if first <= at]
+        off = call["set_down"] != "1" and is_for_riders({**row, "category": before})
+        on = call["pick_up"] != "1" and is_for_riders({**row, "category": after})
+        return off, on
+
+    def riders_calls(self) -> Counter[SqlRow]:
+        """Of each public call whether riders may get off, get on, and do either."""
+        found: Counter[SqlRow] = Counter()
+        for row in self.tables["public"]:
+            off, on = self.riders(row["schedule"], row)
+            flags = (str(int(flag)) for flag in (off, on, off or on))
+            found[(*self.key(row["schedule"]), row["call"], *flags)] += 1
+        return found
+
+    def ends(self, number: str) -> Tuple[Optional[str], Optional[str]]:
+        """The ends that riders know."""
+        calls = self.of_schedule["public"][number]
+        if not calls:
+            return None, None
+        first = next((call for call in calls if call["pick_up"] != "1"), calls[0])
+        last = next((call for call in calls[::-1] if call["set_down"] != "1"), calls[-1])
+        return or_none(first["location"]), or_none(last["location"])
 
     @cached_property
     def calls_on(self) -> Counter[SqlRow]:
@@ -124,48 +173,63 @@ class Expected:
         ]
 
     def is_passenger(self, number: str) -> bool:
-        return is_for_riders(self.schedules[number]) and len(self.of_schedule["public"][number]) > 1
+        calls = self.of_schedule["public"][number]
+        return sum(any(self.riders(number, call)) for call in calls) > 1
+
+    def sorts_of_schedules(self) -> Counter[SqlRow]:
+        """Of each schedule whether it is for passengers, and whether it runs as required."""
+        return Counter(
+            (*self.key(number), str(int(self.is_passenger(number))), as_required(row))
+            for number, row in self.schedules.items()
+        )
 
     def trains_per_day(self) -> Counter[SqlRow]:
-        found: Counter[Tuple[str, Optional[str], str]] = Counter()
+        found: Counter[Tuple[str, Optional[str], str, str]] = Counter()
         for number, row in self.schedules.items():
             for day in self.dates_of(row):
                 passenger = str(int(self.is_passenger(number)))
-                found[day.isoformat(), or_none(row["operator_code"]), passenger] += 1
+                operator = or_none(row["operator_code"])
+                found[day.isoformat(), operator, passenger, as_required(row)] += 1
         return Counter((*key, str(count)) for key, count in found.items())
 
     @cached_property
     def departures(self) -> Counter[SqlRow]:
-        return self.board("departure", "pick_up", -1)
+        return self.board("departure")
 
     @cached_property
     def arrivals(self) -> Counter[SqlRow]:
-        return self.board("arrival", "set_down", 0)
+        return self.board("arrival")
 
-    def board(self, time: str, forbidden: str, end: int) -> Counter[SqlRow]:
+    def board(self, time: str) -> Counter[SqlRow]:
         """All departures, or arrivals, by the clock."""
-        crs = {row["tiploc"]: row["crs_code"] for row in self.tables["tiplocs"]}
+        crs = {row["tiploc"]: or_none(row["crs_code"]) for row in self.tables["tiplocs"]}
         found: Counter[SqlRow] = Counter()
         for number, row in self.schedules.items():
             if not self.is_passenger(number):
                 continue
             for call in self.of_schedule["public"][number]:
-                if call[forbidden] == "1":
+                off, on = self.riders(number, call)
+                if not (on if time == "departure" else off):
                     continue
                 seconds = seconds_of(call[time])
                 for day in self.dates_of(row):
                     found[
-                        or_none(crs.get(call["location"], "")),
+                        crs.get(call["location"]),
+                        crs.get(call["location"]),
                         (day + timedelta(days=seconds // DAY)).isoformat(),
                         clock(seconds),
                         day.isoformat(),
                         row["uid"],
                         or_none(row["identity"]),
                         or_none(row["operator_code"]),
+                        or_none(row["category"]),
+                        or_none(row["status"]),
+                        as_required(row),
                         or_none(call["platform"]),
-                        or_none(self.of_schedule["calls"][number][end]["location"]),
+                        *self.ends(number),
                         call["pick_up"],
                         call["set_down"],
                         call["location"],
+                        call["call"],
                     ] += 1
         return found

@@ -10,7 +10,7 @@ from typing import Dict, List, Optional, Tuple
 
 from gtfs.checks import Counts, Word
 
-from . import by_hand, checks
+from . import by_hand, checks, stations
 from .checks import Maker
 from .definition import Expected, SqlRow
 from .failures import EARLIER, changed, failing_cif
@@ -207,8 +207,8 @@ def check_privileges(counts: Counts, maker: Maker, special: Path) -> None:
         'ALTER DEFAULT PRIVILEGES FOR ROLE "odd %s" IN SCHEMA cif GRANT USAGE ON TYPES TO PUBLIC',
     )
     before = rows_of(query)
-    # the schema, 17 tables and views, two columns, and two privileges by default
-    counts.same("privileges before", 22, len(before))
+    # the schema, 24 tables and views, two columns, and two privileges by default
+    counts.same("privileges before", 29, len(before))
     counts.same("a script where a role reads", (0, "", ""), ended(load(maker, special)))
     counts.same("privileges", before, rows_of(query))
     found = psql("-A", "-t", "-c", "SET ROLE reader; SELECT count(*) FROM cif.runs")
@@ -263,6 +263,16 @@ def check_words(counts: Counts) -> None:
         "SELECT count(*) > 100 FROM information_schema.columns WHERE table_schema = 'cif'"
     )
     counts.same("there are columns", "t", count)
+
+
+def check_stations(counts: Counts, maker: Maker) -> None:
+    """The samples of published extracts."""
+    for name, words, queries in stations.samples(maker):
+        done = psql(script=maker.run("--postgres", "--force", *words).stdout)
+        counts.same(f"{name} for psql", (0, "", ""), ended(done))
+        by_hand.check_queries(counts, queries, rows_of, f"{name} in PostgreSQL")
+    query = "SELECT count(*) FROM pg_constraint WHERE contype = 'f' AND connamespace = 'cif'::regnamespace"
+    counts.same("foreign keys in PostgreSQL", [("10",)], rows_of(query))
 
 
 def check(counts: Counts, maker: Maker, special: Path, blank: Path) -> None:

@@ -15,7 +15,7 @@ sys.path[:1] = [str(HERE.parent), str(TOP / "python")]
 
 from gtfs import generated
 from gtfs.checks import Counts, Source
-from sql import by_hand, documents, failures, postgres, words
+from sql import by_hand, documents, failures, postgres, stations, words
 from sql.checks import Maker, check_database, sqlite_rows
 from sql.definition import Expected
 
@@ -39,10 +39,12 @@ def main() -> int:
             if "PGHOST" in os.environ:
                 postgres.check_database(counts, maker, expected)
         by_hand.check(counts, maker, special, blank)
+        stations.check(counts, maker)
         if "PGHOST" in os.environ:
             postgres.check(counts, maker, special, blank)
+            postgres.check_stations(counts, maker)
             documents.check_questions(counts, maker)
-            documents.check_hub(counts, maker)
+        documents.check_hub(counts, maker)
         failures.check(counts, maker, special)
         words.check(counts)
     skipped = "" if "PGHOST" in os.environ else ", 1 skipped"

@@ -22,7 +22,7 @@ from .._running import leave_cycles, run
 from ..errors import SUCCESS, Misused
 from ..user_csv import Mistake, mail_address, name_of_publisher, shown, web_address
 from .conversion import Outputs, Wishes, convert, user_files
-from .feed import Publisher
+from .feed import Attribution, Publisher
 from .trains import EXTENDED_TYPES, TYPES
 from .wanted import ListPlace
 
@@ -70,6 +70,13 @@ def arguments_of(words: Sequence[str] | None) -> argparse.Namespace:
     add("--url", metavar="URL", help="the address of the publisher on the web")
     add("--email", metavar="ADDRESS", help="the address of the publisher for mail")
     add(
+        "--attribution",
+        action="append",
+        default=[],
+        metavar="NAME[=URL]",
+        help="whose data the feed is made of, and the address of the licence; for each an option",
+    )
+    add(
         "--trips",
         metavar="TRIPS.csv",
         help="a further file to write: of each trip the UID, dates and retail service id",
@@ -100,7 +107,7 @@ def outputs_of(asked: argparse.Namespace) -> Outputs:
     if asked.places_wanted is not None:
         wanted = ListPlace(output_path(asked.places_wanted), asked.places_wanted)
     outputs = [place for place in (feed, wanted and wanted.place, trips) if place]
-    others = (asked.places, asked.operators, asked.interchange, asked.links, asked.holidays)
+    others = (*asked.places, asked.operators, asked.interchange, asked.links, asked.holidays)
     check_inputs_stay(outputs, [asked.extract], others)
     if len(set(outputs)) < len(outputs):
         raise Misused("two outputs have one place")
@@ -125,12 +132,26 @@ def publisher_of(name: str | None, url: str | None, email: str | None) -> Publis
     return Publisher(name or PUBLISHER, url or NO_WEB, email or "")
 
 
+def attribution_of(text: str) -> Attribution:
+    """Who is named, and the address of the licence if there is one after the last `=` before it."""
+    name, equals, url = text.partition("=http")
+    address = f"http{url}" if equals else ""
+    try:
+        name_of_publisher(name)
+        if address:
+            web_address(address)
+    except Mistake as mistake:
+        raise Misused(f"--attribution {shown(text)} {mistake}") from None
+    return Attribution(name, address)
+
+
 def make_feed(asked: argparse.Namespace, progress: Progress) -> int:
     """The status, after the zip is written."""
     outputs = outputs_of(asked)
     types = EXTENDED_TYPES if asked.extended_types else TYPES
     publisher = publisher_of(asked.publisher, asked.url, asked.email)
-    wishes = Wishes(types, asked.whole_trains, publisher, asked.processes)
+    attributions = [attribution_of(text) for text in asked.attribution]
+    wishes = Wishes(types, asked.whole_trains, publisher, attributions, asked.processes)
     given = user_files(asked.places, asked.operators, asked.interchange, asked.links)
     with open_extract(find_cif(asked.cif), request_of(asked, asked.extract)) as extract:
         outcome = convert(extract, given, wishes, outputs, progress)

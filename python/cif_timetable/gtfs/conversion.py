@@ -20,7 +20,7 @@ from ..days import Dated, Dates, Window
 from ..errors import Refused
 from ..model import Association as AssociationRow, Header, Location
 from ..operators import OperatorRow, read_operators
-from ..places import PLACES, PlaceRow, Places
+from ..places import PlaceRow, Places, read_places
 from ..user_csv import Key, read_file
 from . import feed
 from .associations import (
@@ -39,7 +39,7 @@ from .parts import Index, Part, Schedules, in_thread, parts_of, processes_for
 from .routes import Route, Routes
 from .services import Services
 from .stops import Stops
-from .trains import Kind, PublicTrain, Record, ScheduleReader
+from .trains import Change, Kind, PublicTrain, Record, ScheduleReader, read_changes
 from .trips import Assembly, Link, TripsOfUid, add_records, plain_trips
 from .user_files import INTERCHANGE, LINKS, InterchangeRow, LinkRow
 from .wanted import ListPlace, wanted_of, write_wanted
@@ -55,14 +55,14 @@ class UserFiles(NamedTuple):
 
 
 def user_files(
-    places: str | None,
+    places: Sequence[str],
     operators: str | None,
     interchange: str | None,
     links: str | None,
 ) -> UserFiles:
     """What the files of the user have, as far as there are any."""
     return UserFiles(
-        read_file(PLACES, places),
+        read_places(places),
         read_operators(operators),
         read_file(INTERCHANGE, interchange),
         read_file(LINKS, links),
@@ -84,6 +84,7 @@ class Wishes(NamedTuple):
     types: Mapping[Kind, int]
     whole_trains: bool
     publisher: feed.Publisher
+    attributions: Sequence[feed.Attribution] = ()
     # how many processes cut the calls, unless that follows from how many there are
     processes: int | None = None
 
@@ -97,6 +98,8 @@ class Timetable:
     places: Places
     associations: list[Association]
     schedules: Schedules
+    # the categories that schedules get en route
+    changes: dict[bytes, list[Change]]
     # of each train with associations, where it has to stop for these
     spots: dict[str, set[Spot]]
 
@@ -120,7 +123,10 @@ def read_timetable(extract: Extract, given: Mapping[Key, PlaceRow]) -> Iterator[
         with extract.table("schedules") as table:
             schedules = Schedules(table.names, file)
             schedules.fill(table)
-        yield Timetable(header, window, places, associations, schedules, spots_of(associations))
+        with extract.table("changes") as table:
+            changes = read_changes(table)
+        spots = spots_of(associations)
+        yield Timetable(header, window, places, associations, schedules, changes, spots)
 
 
 # Which of the schedules of an extract one is: its UID, first and last date and days run, as they stand
@@ -196,10 +202,12 @@ def variants_of(
 
 
 class LeftOutCounts(NamedTuple):
-    """How many dates are left out: of trains that aren't for riders, and of associations."""
+    """How many dates are left out: of trains that aren't for riders, and of associations; and how many
+    links between stations."""
 
     trains: int
     associations: LeftOut
+    links: int
 
     def lines(self) -> list[str]:
         lines = [
@@ -209,6 +217,8 @@ class LeftOutCounts(NamedTuple):
         ]
         if self.trains:
             lines.insert(0, f"trains left out: they aren't for riders: {self.trains}")
+        if self.links:
+            lines.append(f"links left out: they are there on no date of the window: {self.links}")
         return lines
 
 
@@ -236,12 +246,16 @@ class Conversion:
         wishes: Wishes,
         files: feed.TripFiles,
         records: IO[bytes] | None,
+        winners: Mapping[str, Sequence[feed.Winner]],
     ) -> None:
+        self.winners = winners
         self.timetable = timetable
         self.wishes = wishes
         self.files = files
         self.records = records
-        self.reader = ScheduleReader(timetable.schedules.names, timetable.window, wishes.types)
+        self.reader = ScheduleReader(
+            timetable.schedules.names, timetable.window, wishes.types, timetable.changes
+        )
 
     def write(self, trips: TripsOfUid) -> None:
         self.files.write(trips.trips.values())
@@ -261,7 +275,8 @@ class Conversion:
         self, trip_id: bytes, uid: str, days_later: int, records: Iterable[Record]
     ) -> None:
         assert self.records is not None
-        rows = feed.trip_record_rows(trip_id, uid, days_later, records)
+        winners = self.winners.get(uid, ())
+        rows = feed.trip_record_rows(trip_id, uid, days_later, records, winners)
         self.records.write(feed.csv_of(rows))
 
     def read_trains(
@@ -406,13 +421,16 @@ def convert(
         routes = Routes(stops)
         services = Services(timetable.window)
         records = None
+        published: Mapping[str, Sequence[feed.Winner]] = {}
         if outputs.trips:
             records = files.create(outputs.trips)
             records.write(feed.csv_of([feed.TRIP_RECORDS]))
+            with extract.winners() as winners:
+                published = feed.read_winners(winners) if winners else {}
         with feed.new_zip(files.create(outputs.feed)) as archive, scratch_file() as trips:
             with feed.entry(archive, "stop_times") as stop_times:
                 trip_files = feed.TripFiles(stops, routes, services, (trips, stop_times))
-                conversion = Conversion(timetable, wishes, trip_files, records)
+                conversion = Conversion(timetable, wishes, trip_files, records, published)
                 processes = processes_for(wishes.processes, timetable.schedules.count)
                 variants = conversion.read_trains(extract, processes, progress)
                 links, left_out = conversion.write_linked(variants)
@@ -425,10 +443,15 @@ def convert(
             feed.write_file(archive, "agency", agencies)
             feed.write_file(archive, "stops", stops.rows())
             feed.write_file(archive, "routes", routes.rows())
-            transfers = feed.transfer_rows(links, stops, given.interchange, given.links)
+            fixed_links, expired = feed.links_in(given.links.values(), timetable.header)
+            transfers = feed.transfer_rows(links, stops, given.interchange, fixed_links)
             feed.write_file(archive, "transfers", transfers)
             about = feed.feed_info_row(timetable.header, wishes.publisher)
             feed.write_file(archive, "feed_info", [about])
+            if wishes.attributions:
+                rows = feed.attribution_rows(wishes.attributions)
+                feed.write_file(archive, "attributions", rows)
         wanted = wanted_of(stops)
         write_wanted(wanted, outputs.wanted, files)
-    return Outcome(wanted.stations, LeftOutCounts(conversion.reader.not_for_riders, left_out))
+    left_out_counts = LeftOutCounts(conversion.reader.not_for_riders, left_out, expired)
+    return Outcome(wanted.stations, left_out_counts)

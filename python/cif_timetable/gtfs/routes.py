@@ -69,6 +69,8 @@ class AgencyRow(NamedTuple):
     url: str
     timezone: str
     language: str
+    phone: str
+    email: str
 
 
 class Shown(NamedTuple):
@@ -123,7 +125,7 @@ class Routes:
         """The station or stop where a train ends."""
         if location not in self.ends:
             name = location.decode()
-            code = self.stops.places.tiploc(name).crs or stop_id(name)
+            code = self.stops.places.tiploc(name).station_crs or stop_id(name)
             station = self.stops.places.station_name(name)
             self.ends[location] = End(self.stops.end_of(name), station, code)
         return self.ends[location]
@@ -139,12 +141,13 @@ class Routes:
     def agencies(
         self, given: Mapping[Key, OperatorRow], web: str, timezone: str, language: str
     ) -> list[AgencyRow]:
-        """The rows of agency.txt, with the names and addresses that the user gives."""
+        """The rows of agency.txt, with the names, addresses and numbers that the user gives."""
         rows = []
         for operator in sorted(self.operators):
             known = given.get((operator,))
             agency = coded(operator) or NO_OPERATOR
             url = known.url if known and known.url else web
             name = operator_name(operator, given)
-            rows.append(AgencyRow(agency, name, url, timezone, language))
+            calls = (known.phone or "", known.email or "") if known else ("", "")
+            rows.append(AgencyRow(agency, name, url, timezone, language, *calls))
         return rows

@@ -1,7 +1,7 @@
 """Stations and stops: their ids and rows.
 
-A station is made of each CRS code. Below it are its TIPLOCs, and the platforms of these. A TIPLOC
-without a CRS code is a stop by itself, whatever its platforms.
+A station is made of the TIPLOCs with one CRS code of a station. Below it are these, and their
+platforms. A TIPLOC without such a code is a stop by itself, whatever its platforms.
 """
 from __future__ import annotations
 
@@ -57,14 +57,14 @@ class Stops:
         """The id of a stop that `ids` hasn't got."""
         name = location.decode()
         found = stop_id(name)
-        if self.places.tiploc(name).crs and platform:
+        if self.places.tiploc(name).station_crs and platform:
             found = f"{found}/{coded(platform.decode())}"
         return self.ids.setdefault(location, {}).setdefault(platform, found.encode())
 
     def end_of(self, name: str) -> str:
         """The id of the station of a TIPLOC, or of the stop that it is by itself."""
-        tiploc = self.places.tiploc(name)
-        return station_id(tiploc.crs) if tiploc.crs else stop_id(name)
+        crs = self.places.tiploc(name).station_crs
+        return station_id(crs) if crs else stop_id(name)
 
     def used(self) -> list[Tiploc]:
         """The TIPLOCs that have a stop, rising."""
@@ -86,13 +86,14 @@ class Stops:
 
     def stations(self) -> list[StopRow]:
         """The stations in use, rising by CRS code."""
-        return [self.station(crs) for crs in sorted({tiploc.crs for tiploc in self.used()} - {""})]
+        codes = {tiploc.station_crs for tiploc in self.used()} - {""}
+        return [self.station(crs) for crs in sorted(codes)]
 
     def stop(self, location: str, platform: str, stop: bytes) -> StopRow:
         tiploc = self.places.tiploc(location)
         latitude, longitude = self.places.coordinates(location)
         name = tiploc.given_name or self.places.station_name(location)
-        parent = station_id(tiploc.crs) if tiploc.crs else ""
+        parent = station_id(tiploc.station_crs) if tiploc.station_crs else ""
         below = platform if parent else ""
         return StopRow(stop.decode(), tiploc.crs, name, latitude, longitude, STOP, parent, below)
 

@@ -1,16 +1,17 @@
-"""The public trains of an extract: schedules with two public calls or more that are for riders."""
+"""The public trains of an extract: schedules with two public calls or more where they are for riders."""
 from __future__ import annotations
 
-from collections.abc import Iterable, Iterator, Mapping
+from collections.abc import Iterable, Iterator, Mapping, Sequence
 from enum import Enum
 from operator import itemgetter
+from types import MappingProxyType
 from typing import NamedTuple
 
 from .._schedules import calls_by_schedule
 from .._tables import Table
 from ..days import Dates, Window, count_of
 from ..errors import Unexpected
-from ..riders import is_for_riders
+from ..riders import Sort, at_arrival, at_departure, is_ever, is_for_riders, sort_of
 
 
 class Kind(Enum):
@@ -36,20 +37,23 @@ TYPES: dict[Kind, int] = {
 EXTENDED_TYPES: dict[Kind, int] = {**TYPES, Kind.SLEEPER: 105, Kind.REPLACEMENT: 714}
 
 
-class Sort(NamedTuple):
+class Fields(NamedTuple):
     """The fields of a schedule that say what its train is."""
 
     status: str
     category: str
     sleepers: str
+    reservations: str
 
 
-# What a trip shows of its train besides the calls, as ids are made of it: the identity, the operator
-# and the route type, with tabs between them and a line feed after them.
+# What a trip shows of its train besides the calls, as ids are made of it: the identity, the operator,
+# the route type, and BIKES if it takes them, with tabs between them and a line feed after them.
 About = bytes
+# What stands at the end of a train that takes bicycles, for which reservations are essential.
+BIKES = b"\tE\n"
 
 
-def kind_of(sort: Sort) -> Kind:
+def kind_of(sort: Fields) -> Kind:
     """The kind of a train. From memory, as CIF has them: category BR is a bus that replaces trains,
     BS another bus, SS a ship, OL an underground or metro train, XZ a sleeper; status B or 5 is a
     bus, S or 4 a ship; a train with sleeping cars says which."""
@@ -74,14 +78,51 @@ PublicTrain = tuple[Dates, About, Record, bytes, bytes]
 # The first fields of `schedules`, and of the others those that are read here.
 FIRST = "schedule uid first_date last_date days_run".split()
 SHOWN = "reserved_a identity operator_code".split()
-SORT = Sort._fields
+SORT = Fields._fields
 NO_CALLS = (b"", b"")
+NEVER = b"1"
+
+
+# The category that a schedule gets from a call with this number on.
+Change = tuple[int, str]
+
+
+def read_changes(table: Table) -> dict[bytes, list[Change]]:
+    """The categories that schedules get en route, by their numbers."""
+    cells_at = table.cells_at(("schedule", "call", "category"))
+    found: dict[bytes, list[Change]] = {}
+    for line in table.lines:
+        schedule, call, category = cells_at(line.decode().rstrip("\n").split("\t"))
+        found.setdefault(schedule.encode(), []).append((int(call), category))
+    return found
+
+
+def calls_for_riders(text: bytes, sort: Sort) -> bytes:
+    """The rows of `public` of a schedule where it is for riders, of which nobody gets off where it
+    becomes so, and nobody gets on where it becomes something else."""
+    rows = []
+    for line in text.splitlines():
+        *others, set_down, pick_up = line.split(b"\t")
+        call = int(others[1])
+        flags = (
+            set_down if at_arrival(sort, call) else NEVER,
+            pick_up if at_departure(sort, call) else NEVER,
+        )
+        if flags != (NEVER, NEVER):
+            rows.append(b"\t".join((*others, *flags)) + b"\n")
+    return b"".join(rows)
 
 
 class ScheduleReader:
-    """Reads rows of `schedules`."""
+    """Reads rows of `schedules`. Those of some of these change their category en route."""
 
-    def __init__(self, names: list[str], window: Window, types: Mapping[Kind, int]) -> None:
+    def __init__(
+        self,
+        names: list[str],
+        window: Window,
+        types: Mapping[Kind, int],
+        changes: Mapping[bytes, Sequence[Change]] = MappingProxyType({}),
+    ) -> None:
         if names[: len(FIRST)] != FIRST:
             raise Unexpected("cif writes another table of schedules: is it another release?")
         others = names[len(FIRST) :]
@@ -89,15 +130,18 @@ class ScheduleReader:
         self.sort_at = itemgetter(*map(others.index, SORT))
         self.window = window
         self.types = types
+        self.changes = changes
         # on how many dates a train isn't for riders
         self.not_for_riders = 0
-        # the route type of each sort and a line feed, or None if it isn't for riders
+        # the end of what is shown of each sort, or None if it isn't for riders
         self.known: dict[tuple[bytes, ...], bytes | None] = {}
 
-    def route_type(self, status: bytes, category: bytes, sleepers: bytes) -> bytes | None:
-        sort = Sort(status.decode(), category.decode(), sleepers.decode())
-        is_shown = is_for_riders(sort.status, sort.category)
-        return b"%d\n" % self.types[kind_of(sort)] if is_shown else None
+    def ending(self, fields: Fields) -> bytes | None:
+        """The route type and whether it takes bicycles, or None if it isn't for riders."""
+        if not is_for_riders(fields.status, fields.category):
+            return None
+        end = BIKES if fields.reservations == "E" else b"\n"
+        return b"%d" % self.types[kind_of(fields)] + end
 
     def read_others(self, text: bytes) -> tuple[bytes, About | None]:
         """The retail service id, and what the train is, of the fields after the first ones."""
@@ -105,11 +149,27 @@ class ScheduleReader:
         retail, identity, operator = self.shown_at(cells)
         sort = self.sort_at(cells)
         if sort not in self.known:
-            self.known[sort] = self.route_type(*sort)
-        route_type = self.known[sort]
-        if route_type is None:
+            self.known[sort] = self.ending(Fields(*(cell.decode() for cell in sort)))
+        ending = self.known[sort]
+        if ending is None:
             return retail, None
-        return retail, b"\t".join((identity, operator, route_type))
+        return retail, b"\t".join((identity, operator, ending))
+
+    def changed(
+        self, number: bytes, others: bytes, text: bytes
+    ) -> tuple[bytes, About | None, bytes]:
+        """The retail service id, what the train is, and the rows of `public`, of a schedule that
+        changes its category en route."""
+        cells = others.rstrip(b"\n").split(b"\t")
+        fields = Fields(*(cell.decode() for cell in self.sort_at(cells)))
+        sort = sort_of(fields.status, fields.category, self.changes[number])
+        retail, identity, operator = self.shown_at(cells)
+        if not is_ever(sort):
+            return retail, None, text
+        categories = (fields.category, *(category for _, category in self.changes[number]))
+        endings = (self.ending(fields._replace(category=category)) for category in categories)
+        about = b"\t".join((identity, operator, next(filter(None, endings))))
+        return retail, about, calls_for_riders(text, sort) if sort[1:] else text
 
     def public_trains(
         self, schedules: Iterable[bytes], table: Table
@@ -117,6 +177,7 @@ class ScheduleReader:
         """The public trains of each UID that has one, in the order of the extract. The lines are those
         of `schedules`."""
         dates_of = self.window.dates
+        changes = self.changes
         calls = calls_by_schedule(table)
         number, text = next(calls, NO_CALLS)
         known = retail = of_uid = b""
@@ -128,11 +189,14 @@ class ScheduleReader:
                 continue
             if text.find(b"\n") < len(text) - 1:
                 # the schedules of a train often differ in nothing but dates
-                if others != known:
+                if number in changes:
+                    known = b""
+                    retail, about, text = self.changed(number, others, text)
+                elif others != known:
                     known = others
                     retail, about = self.read_others(others)
                 dates = dates_of(first, last, days_run)
-                if about is None:
+                if about is None or text.find(b"\n") >= len(text) - 1:
                     self.not_for_riders += count_of(dates)
                 else:
                     if uid != of_uid:

@@ -1,5 +1,6 @@
 """NaPTAN's stops: a CSV file. The ATCO code of a railway station is 9100 and its TIPLOC. A row may
-have its place on the Ordnance Survey's grid alone."""
+have its place on the Ordnance Survey's grid alone. A row that can't be read is left out, and one whose
+place can't be read has none."""
 from __future__ import annotations
 
 import csv
@@ -10,7 +11,7 @@ from typing import NamedTuple
 from ..places import PlaceRow, mistakes_of_place
 from ..user_csv import Lines, Mistake, Unreadable, degrees
 from .grid import latitude_and_longitude
-from .public_file import MOST_BYTES, PLACES, Row, checked_text, refusal
+from .public_file import MOST_BYTES, PLACES, Notes, Odd, Row, checked_text, refusal
 
 NEEDED = ("ATCOCode", "CommonName", "Longitude", "Latitude")
 FURTHER = ("Easting", "Northing", "GridType")
@@ -50,7 +51,7 @@ def rows_of(path: str) -> Iterator[tuple[int, list[str]]]:
             raise refusal(path, first_line, f"this is no CSV: {problem}") from None
 
 
-def places(path: str) -> list[Row]:
+def places(path: str, notes: Notes) -> list[Row]:
     """The places of the railway stations."""
     rows = rows_of(path)
     names: list[str] = next((cells for _, cells in rows), [])
@@ -62,61 +63,58 @@ def places(path: str) -> list[Row]:
     for line, cells in rows:
         if len(cells) <= code_at or not cells[code_at].startswith(RAILWAY):
             continue
-        if len(cells) != len(names):
-            mistake = f"{len(cells)} fields, and the first line has {len(names)}"
-            raise refusal(path, line, mistake)
         given = dict(zip(names, cells))
         station = Station(*(given.get(name, "").strip() for name in (*NEEDED, *FURTHER)))
-        if station.code not in found:
-            found[station.code] = place_of(path, line, station)
+        if station.code in found:
+            continue
+        try:
+            if len(cells) != len(names):
+                raise Odd("more or fewer fields than the first line has")
+            found[station.code] = place_of(line, station, notes)
+        except Odd:
+            notes.left_out.append(line)
     return [PLACES, *(found[code] for code in sorted(found))]
 
 
-def place_of(path: str, line: int, station: Station) -> Row:
+def place_of(line: int, station: Station, notes: Notes) -> Row:
     """The row of a station."""
-    tiploc = checked_text(path, line, "ATCOCode", station.code)[len(RAILWAY) :]
+    tiploc = checked_text(station.code)[len(RAILWAY) :]
     if not tiploc:
-        raise refusal(path, line, "the TIPLOC is missing")
-    name = checked_text(path, line, "CommonName", station.name)
+        raise Odd("the TIPLOC is missing")
+    name = checked_text(station.name)
     if name.endswith(END_OF_NAME):
         name = name[: -len(END_OF_NAME)]
-    return (tiploc, name, *coordinates_of(path, line, station))
+    try:
+        return (tiploc, name, *coordinates_of(station))
+    except (Mistake, Odd):
+        notes.without_coordinates.append(line)
+        return (tiploc, name, "", "")
 
 
-def coordinates_of(path: str, line: int, station: Station) -> tuple[str, str]:
+def coordinates_of(station: Station) -> tuple[str, str]:
     """Latitude and longitude, as they stand or of the grid, or nothing. Two zeros are nothing."""
-    angles = []
-    for name, value, most in (
-        ("Latitude", station.latitude, 90),
-        ("Longitude", station.longitude, 180),
-    ):
-        try:
-            if value:
-                angles.append(degrees(most)(value))
-        except Mistake as mistake:
-            raise refusal(path, line, f"{name} `{value}` {mistake}") from None
-    if len(angles) == 1:
-        raise refusal(path, line, "one of Longitude and Latitude is missing")
-    if not any(angles):
-        return coordinates_on_grid(path, line, station)
-    for text in mistakes_of_place(PlaceRow("", None, *angles)):
-        raise refusal(path, line, text)
+    if bool(station.latitude) != bool(station.longitude):
+        raise Odd("one of Longitude and Latitude is missing")
+    latitude = degrees(90)(station.latitude) if station.latitude else 0
+    longitude = degrees(180)(station.longitude) if station.longitude else 0
+    if not latitude and not longitude:
+        return coordinates_on_grid(station)
+    for text in mistakes_of_place(PlaceRow("", None, latitude, longitude)):
+        raise Odd(text)
     return station.latitude, station.longitude
 
 
-def coordinates_on_grid(path: str, line: int, station: Station) -> tuple[str, str]:
+def coordinates_on_grid(station: Station) -> tuple[str, str]:
     """Latitude and longitude of easting and northing, or nothing, likewise."""
     if not station.easting or not station.northing or station.grid.startswith(OTHER_GRID):
         return "", ""
-    fields = (("Easting", station.easting, EAST), ("Northing", station.northing, NORTH))
-    for name, value, _ in fields:
-        if not re.fullmatch(r"[0-9]{1,7}(\.[0-9]+)?", value):
-            raise refusal(path, line, f"{name} `{value}` isn't a number of metres")
-    easting, northing = float(station.easting), float(station.northing)
+    values = (station.easting, station.northing)
+    if not all(re.fullmatch(r"[0-9]{1,7}(\.[0-9]+)?", value) for value in values):
+        raise Odd("no metres")
+    easting, northing = map(float, values)
     if not easting and not northing:
         return "", ""
-    for name, value, end in fields:
-        if not 0 < float(value) < end:
-            raise refusal(path, line, f"{name} `{value}` isn't on the grid, which ends at {end}")
+    if not (0 < easting < EAST and 0 < northing < NORTH):
+        raise Odd("not on the grid")
     latitude, longitude = latitude_and_longitude(easting, northing)
     return f"{latitude:.5f}", f"{longitude:.5f}"

@@ -21,8 +21,7 @@ from .._progress import Progress
 from .._running import leave_cycles, run
 from ..errors import SUCCESS, Misused, Refused
 from ..operators import operator_name, read_operators
-from ..places import PLACES, Places
-from ..user_csv import read_file
+from ..places import Places, read_places
 from .comparison import compare, numbers_of
 from .days import Calendar
 from .differences import Bodies
@@ -114,14 +113,14 @@ class Outputs:
         self.rows = output_path(str(self.page.with_suffix(".csv")))
         if self.rows == self.page:
             raise Misused(f"{asked.output}: the CSV file would take the place of the page")
-        others = (asked.places, asked.operators, asked.holidays)
+        others = (*asked.places, asked.operators, asked.holidays)
         check_inputs_stay((self.page, self.rows), (asked.old, asked.new), others)
         check_rows(self.rows)
 
 
 def names_of(asked: argparse.Namespace, pair: Pair) -> Names:
     """The names of places, those of the later extract first, and of operators."""
-    given, operators = read_file(PLACES, asked.places), read_operators(asked.operators)
+    given, operators = read_places(asked.places), read_operators(asked.operators)
     places = Places([*pair.new.tiplocs, *pair.old.tiplocs], given)
     return Names(
         lambda tiploc: shortened(places.station_name(tiploc)),

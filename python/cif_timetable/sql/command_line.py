@@ -4,6 +4,7 @@ from __future__ import annotations
 import argparse
 import os
 import re
+import sys
 from collections.abc import Sequence
 from contextlib import ExitStack
 from pathlib import Path
@@ -16,7 +17,7 @@ from .._progress import Progress
 from .._running import leave_cycles, run, standard_output
 from ..errors import SUCCESS, Misused
 from .database import make_database, reading_source, user_files
-from .loading import UserFiles, load
+from .loading import Loaded, UserFiles, load
 from .postgres import PostgresScript, check_schema
 from .sqlite_file import check_place
 
@@ -57,6 +58,12 @@ def arguments_of(words: Sequence[str] | None) -> argparse.Namespace:
         metavar="DATABASE",
         help="the database to write, by default EXTRACT's name with .db",
     )
+    add(
+        "-v",
+        "--verbose",
+        action="store_true",
+        help="count the calls whose location has no TI",
+    )
     add_cif(parser)
     add_help(parser)
     add("extract", metavar="EXTRACT", help="the extract, or - for standard input")
@@ -72,13 +79,20 @@ def place_of(asked: argparse.Namespace) -> Path:
         name = PACKED.sub("", asked.extract)
         name = os.path.splitext(name)[0] + ".db"
     place = output_path(name)
-    others = (asked.places, asked.operators, asked.holidays)
+    others = (*asked.places, asked.operators, asked.holidays)
     check_inputs_stay([place], [asked.extract], others)
     return place
 
 
 def given_files(asked: argparse.Namespace) -> UserFiles:
     return user_files(asked.places, asked.operators)
+
+
+def tell(asked: argparse.Namespace, loaded: Loaded, progress: Progress) -> None:
+    """Says what is odd, if that is asked for."""
+    progress.clear()
+    if asked.verbose:
+        print(f"{PROGRAM}: calls whose location has no TI: {loaded.text()}", file=sys.stderr)
 
 
 def make_file(asked: argparse.Namespace, progress: Progress) -> int:
@@ -89,7 +103,8 @@ def make_file(asked: argparse.Namespace, progress: Progress) -> int:
     check_place(place)
     given = given_files(asked)
     with open_extract(find_cif(asked.cif), request_of(asked, asked.extract)) as extract:
-        make_database(extract, place, given, asked.force, progress)
+        loaded = make_database(extract, place, given, asked.force, progress)
+    tell(asked, loaded, progress)
     return SUCCESS
 
 
@@ -104,10 +119,11 @@ def write_script(asked: argparse.Namespace, progress: Progress) -> int:
     with open_extract(find_cif(asked.cif), request) as extract, ExitStack() as stack:
         script = PostgresScript(stack)
         with reading_source(extract) as source:
-            load(extract, source, given, script, progress)
+            loaded = load(extract, source, given, script, progress)
         progress.show("writing the script")
         with standard_output() as output:
             script.write(output, schema, extract.header(), asked.force)
+    tell(asked, loaded, progress)
     return SUCCESS
 
 

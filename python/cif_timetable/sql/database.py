@@ -3,7 +3,7 @@ from __future__ import annotations
 
 import hashlib
 import os
-from collections.abc import Callable, Iterator
+from collections.abc import Callable, Iterator, Sequence
 from concurrent.futures import ThreadPoolExecutor
 from contextlib import contextmanager
 from datetime import datetime, timezone
@@ -15,16 +15,16 @@ from .._files import BLOCK, new_files
 from .._process import Cif
 from .._progress import Progress
 from ..operators import read_operators
-from ..places import PLACES
-from ..user_csv import CONTROL, read_file
+from ..places import read_places
+from ..user_csv import CONTROL
 from .background import in_background
-from .loading import Source, UserFiles, load
+from .loading import Loaded, Source, UserFiles, load
 from .sqlite_file import Parts, check_age, check_place, join_parts, new_part
 
 
-def user_files(places: str | None, operators: str | None) -> UserFiles:
+def user_files(places: Sequence[str], operators: str | None) -> UserFiles:
     """What the files of the user have, as far as there are any."""
-    return UserFiles(read_file(PLACES, places), read_operators(operators))
+    return UserFiles(read_places(places), read_operators(operators))
 
 
 def version_of(cif: Cif) -> str:
@@ -55,7 +55,7 @@ def reading_source(extract: Extract) -> Iterator[Callable[[], Source]]:
 
 def make_database(
     extract: Extract, place: Path, given: UserFiles, force: bool, progress: Progress
-) -> None:
+) -> Loaded:
     """Writes the SQLite file. It takes its place once it is complete, unless there is a later one,
     which is replaced by force only."""
     if not force:
@@ -66,10 +66,11 @@ def make_database(
         # no thread is there yet when the processes start
         with in_background(parts) as databases:
             with reading_source(extract) as source:
-                load(extract, source, given, Parts(*databases), progress)
+                loaded = load(extract, source, given, Parts(*databases), progress)
             progress.show("building indexes")
         join_parts(longest, others, path, place)
         # it may have become another one meanwhile
         check_place(place)
         if not force:
             check_age(place, extract.header())
+    return loaded

@@ -18,3 +18,6 @@ ALTER TABLE public_calls ADD COLUMN departure text GENERATED ALWAYS AS (
     CASE WHEN departure_seconds < 36000 THEN '0' ELSE '' END || CAST(departure_seconds / 3600 AS text) || ':' ||
     substr(CAST(100 + departure_seconds % 3600 / 60 AS text), 2) || ':' || substr(CAST(100 + departure_seconds % 60 AS text), 2)
 ) VIRTUAL;
+ALTER TABLE public_calls ADD COLUMN passenger integer GENERATED ALWAYS AS (
+    CASE WHEN get_off + get_on > 0 THEN 1 ELSE 0 END
+) VIRTUAL;
