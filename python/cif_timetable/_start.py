@@ -11,6 +11,7 @@ import sys
 FAILED = 4
 OLDEST = (3, 11)
 PACKAGES = {
+    "cif-board": "board",
     "cif-feed": "feed",
     "cif-gtfs": "gtfs",
     "cif-gtfs-csv": "public_files",
@@ -48,8 +49,13 @@ def run(program: str) -> None:
         os._exit(FAILED)  # pylint: disable=protected-access
 
 
+def board() -> None:
+    """cif-board, where it is installed by pip."""
+    run("cif-board")
+
+
 def feed() -> None:
-    """cif-feed, where it is installed by pip."""
+    """cif-feed, likewise."""
     run("cif-feed")
 
 

@@ -1,0 +1,3 @@
+SELECT tiploc, crs, station_crs, name
+FROM locations
+WHERE tiploc = :place;

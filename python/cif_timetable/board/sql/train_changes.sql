@@ -1,0 +1,4 @@
+SELECT *
+FROM changes
+WHERE journey = :journey
+ORDER BY number;

@@ -1,0 +1,2 @@
+SELECT first_date, last_date
+FROM extract;
