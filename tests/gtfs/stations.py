@@ -63,7 +63,7 @@ def check_stations(counts: Counts, maker: Maker) -> None:
     (maker.folder / "parts.csv").write_text(PARTS)
     (maker.folder / "interchange.csv").write_text("crs,minutes\nSPL,5\n")
     (maker.folder / "links.csv").write_text(
-        "from,to,minutes\nSPL,ECR,9\nSTP,LEI,8\nSPL,LEI,7\nSPL,STP,3\n"
+        "from,to,minutes,last_date\nSPL,ECR,9,\nSTP,LEI,8,\nSPL,LEI,7,\nSPL,STP,3,\nSTP,ECR,1,2020-12-31\n"
     )
     changes = ("--interchange", "interchange.csv", "--links", "links.csv")
     _, files = maker.feed(*STATIONS, *changes, extract)
@@ -212,6 +212,7 @@ def check_published(counts: Counts, maker: Maker) -> None:
         stop: (name, latitude)
         for stop, name, latitude in rows(files, "stops", "stop_id", "stop_name", "stop_lat")
     }
+    counts.test("a station of MSN", "station:STP" in stations, sorted(stations))
     counts.same("a station of NaPTAN", ("Brighton", "50.82906"), stations.get("station:BTN"))
     counts.same("a time of change of MSN", 600, changes_of(files).get(("CLJ", "CLJ")))
     [version] = rows(files, "feed_info", "feed_version")
