@@ -82,9 +82,11 @@ def to_gtfs(
     publisher: str | None = None,
     url: str | None = None,
     email: str | None = None,
+    attributions: Sequence[str] = (),
 ) -> GtfsResult:
     """Makes a GTFS feed of a timetable, as `cif-gtfs` does: docs/GTFS.md says what becomes of what,
-    and describes the files and the options. The zip takes its place once it is complete."""
+    and describes the files and the options. Each of the attributions is a name, or a name, `=` and the
+    address of a licence. The zip takes its place once it is complete."""
     # pylint: disable-next=import-outside-toplevel,cyclic-import
     from .gtfs import command_line, conversion, trains
 
@@ -92,7 +94,8 @@ def to_gtfs(
     files = text_of(operators), text_of(interchange), text_of(links)
     types = trains.EXTENDED_TYPES if extended_types else trains.TYPES
     about = command_line.publisher_of(publisher, url, email)
-    wishes = conversion.Wishes(types, whole_trains, about)
+    given_by = [command_line.attribution_of(text) for text in attributions]
+    wishes = conversion.Wishes(types, whole_trains, about, given_by)
     with opened(timetable) as found:
         outputs = conversion.Outputs(place_of(path, found, *of_places, *files), None, None)
         given = conversion.user_files(of_places, *files)

@@ -9,6 +9,7 @@ from datetime import date
 from cif_timetable._tables import Table
 from cif_timetable.days import Window
 from cif_timetable.gtfs.calls import Stop, row_at, rounded_up
+from cif_timetable.gtfs.feed import Winner
 from cif_timetable.gtfs.parts import Index, Part, Schedules, parts_of
 from cif_timetable.gtfs.services import Services
 from cif_timetable.gtfs.trains import EXTENDED_TYPES, Fields, Kind, kind_of
@@ -167,7 +168,8 @@ class Links(unittest.TestCase):
         """The shortest of those that hold, or else the longest."""
         for links, wanted in (
             ([link(9, days_run="1111110"), link(12, begins="0700", ends="2200"), link(20)], 12),
-            ([link(9, begins="0701"), link(8, ends="2159")], 9),
+            ([link(7, begins="0701"), link(8, days_run="1111110")], 8),
+            ([link(7, ends="2159"), link(8, days_run="1111110")], 8),
             ([link(5, "2026-12-05"), link(7, last="2027-12-03")], 7),
             ([link(5, "2026-12-04", "2027-12-04"), link(7)], 5),
             ([link(5), link(7, days_run="0000001")], 5),
@@ -185,3 +187,18 @@ class Links(unittest.TestCase):
         ):
             with self.subTest(when):
                 self.assertEqual(wanted, link(5, *when).is_in(*self.WINDOW))
+
+
+class PublishedSchedules(unittest.TestCase):
+    """The dates that a canonical schedule and a published one share."""
+
+    def test_shared(self) -> None:
+        winner = Winner("2026-01-01", "P", "2026-01-05", "2026-01-18", "1100011")
+        for first, last, days_run, wanted in (
+            ("2026-01-01", "2026-01-31", "1111111", ("2026-01-05", "2026-01-18", "1100011")),
+            ("2026-01-07", "2026-01-13", "0110001", ("2026-01-07", "2026-01-13", "0100001")),
+            ("2026-01-05", "2026-01-18", "0011100", None),
+            ("2026-01-07", "2026-01-08", "1111111", None),
+        ):
+            with self.subTest(first):
+                self.assertEqual(wanted, winner.shared(first, last, days_run))

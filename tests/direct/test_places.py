@@ -109,10 +109,10 @@ class SeveralFiles(unittest.TestCase):
     """What several files of places say."""
 
     def test_first_filled_cell(self) -> None:
-        one = PlaceRow("A", None, None, None, "ABC")
-        other = PlaceRow("A", "Name", 51.0, -1.0, "XYZ")
-        self.assertEqual(PlaceRow("A", "Name", 51.0, -1.0, "ABC"), both(one, other))
-        self.assertEqual(PlaceRow("A", "Name", 51.0, -1.0, "XYZ"), both(other, one))
+        coded = PlaceRow("A", None, None, None, "ABC")
+        full = PlaceRow("A", "Name", 51.0, -1.0, "XYZ")
+        self.assertEqual(PlaceRow("A", "Name", 51.0, -1.0, "ABC"), both(coded, full))
+        self.assertEqual(PlaceRow("A", "Name", 51.0, -1.0, "XYZ"), both(full, coded))
 
 
 class CallsForRiders(unittest.TestCase):

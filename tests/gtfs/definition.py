@@ -92,8 +92,8 @@ KINDS = (
     ("sleeper", "category", ("XZ",)),
     ("sleeper", "sleepers", ("B", "F", "S")),
 )
-# What isn't for riders: by the category empty stock, staff, unadvertised trains, post, departmental trains, light locomotives, and freight with its
-# digits; by the status freight.
+# What isn't for riders: by the category empty stock, staff, unadvertised trains, post, departmental trains, light locomotives, and
+# freight with its digits; by the status freight.
 NO_RIDERS = re.compile(r"E[ELS]|O[SU]|XU|JJ|P[MPV]|D[DHIQTY]|Z[BZ]|.*[0-9].*")
 
 

@@ -181,6 +181,11 @@ ODD: Dict[str, Tuple[Tuple[str, str, str], ...]] = {
             )
         ),
         (with_record("HOVE", "H", "00000", "00000", ""), "", "HOVE,Hove,,,"),
+        (
+            with_record("LERWICK", "LWH", "14460", "71425", 30),
+            "",
+            "LERWICK,Hove,60.1644,-1.1730,LWH",
+        ),
     ),
     "msn-interchange": (
         (with_record("HOVE", "H", "15288", "61055", 5), f"{LEFT_OUT}: 1 (line 8)", ""),

@@ -63,7 +63,7 @@ def check_stations(counts: Counts, maker: Maker) -> None:
     (maker.folder / "parts.csv").write_text(PARTS)
     (maker.folder / "interchange.csv").write_text("crs,minutes\nSPL,5\n")
     (maker.folder / "links.csv").write_text(
-        "from,to,minutes\nSPL,ECR,9\nSTP,LEI,8\nSPL,LEI,7\nSPL,STP,3\n"
+        "from,to,minutes,last_date\nSPL,ECR,9,\nSTP,LEI,8,\nSPL,LEI,7,\nSPL,STP,3,\nSTP,ECR,1,2020-12-31\n"
     )
     changes = ("--interchange", "interchange.csv", "--links", "links.csv")
     _, files = maker.feed(*STATIONS, *changes, extract)
@@ -169,6 +169,8 @@ def check_published(counts: Counts, maker: Maker) -> None:
     ):
         done = maker.run(kind, FEEDS / path, program="cif-gtfs-csv")
         counts.same(f"{kind} of {path}", 0, done.returncode)
+        part = "\nSTPANCI,St Pancras International,51.5291,-0.1259,STP\n"
+        counts.same(f"{kind}, a part of a station", kind == "msn-places", part in done.stdout)
         (maker.folder / f"{kind}.csv").write_text(done.stdout)
         options += [f"--{kind.partition('-')[2]}", f"{kind}.csv"]
     given = (

@@ -180,6 +180,10 @@ BLANK_QUERIES: Queries = {
     ),
 }
 EXAMPLE_QUERIES: Queries = {
+    "a train that joins another goes on with it alone": (
+        "SELECT DISTINCT to_crs FROM rides WHERE portion = 'W20231' AND date = '2026-06-05' ORDER BY to_crs",
+        [("ECR",), ("GTW",), ("VIC",)],
+    ),
     "after midnight the date is that of the clock": (
         "SELECT station, time, train_date, uid, destination_name FROM departures"
         " WHERE crs = 'HHE' AND date = '2026-06-06' ORDER BY time LIMIT 1",

@@ -11,9 +11,10 @@ from .postgres import load, psql
 
 QUESTION = re.compile(r'^\$ sqlite3 timetable\.db "([^"]*)"\n((?:[^`$\n].*\n)*)', re.MULTILINE)
 QUESTIONS = 12
-# The trains of a hub all go to one other station, each day of three weeks, and there are others elsewhere. A question has to be answered in a few seconds.
+# The trains of a hub all go to one other station, each day of three weeks, and there are others elsewhere. A question has to be answered
+# in a few seconds.
 HUB_TRAINS = 1000
-OTHER_TRAINS = 3000
+OTHER_TRAINS = 6000
 HUB_HEADER = "HDTPS.UTEST01.PD2601040401262130DFTEST1       FA050126250126"
 HUB_TIME = "5s"
 OTHER_PLACES = 300

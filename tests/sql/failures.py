@@ -32,7 +32,7 @@ KILLS = 12
 # What a terminal acts on.
 CONTROL = re.compile(r"[\x00-\x09\x0b-\x1f\x7f-\x9f]")
 # The processes that write a database.
-WRITERS = 2
+WRITERS = 3
 
 
 def left(maker: Maker) -> List[str]:

@@ -133,7 +133,7 @@ def publisher_of(name: str | None, url: str | None, email: str | None) -> Publis
 
 
 def attribution_of(text: str) -> Attribution:
-    """Who is named, and the address of the licence if there is one after the last `=` before it."""
+    """Who is named, and the address of the licence, which stands after `=`, or nothing."""
     name, equals, url = text.partition("=http")
     address = f"http{url}" if equals else ""
     try:

@@ -273,6 +273,8 @@ class Winner(NamedTuple):
     def shared(self, first: str, last: str, days_run: str) -> tuple[str, str, str] | None:
         """The dates, of those from the first to the last on these weekdays, on which it decides."""
         start, end = max(first, self.wins_from), min(last, self.wins_to)
+        if start > end:
+            return None
         both = "".join(str(int(one == other == "1")) for one, other in zip(days_run, self.days_run))
         days = (date.fromisoformat(end) - date.fromisoformat(start)).days + 1
         weekday = date.fromisoformat(start).weekday()

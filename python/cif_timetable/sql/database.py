@@ -61,14 +61,15 @@ def make_database(
     if not force:
         check_age(place, extract.header())
     with new_files() as files:
-        path, longest, others = files.reserve(place), files.beside(place), files.beside(place)
-        parts = [partial(new_part, part, place) for part in (longest, others)]
+        path = files.reserve(place)
+        longest, second, others = (files.beside(place) for _ in range(3))
+        opened = [partial(new_part, part, place) for part in (longest, second, others)]
         # no thread is there yet when the processes start
-        with in_background(parts) as databases:
+        with in_background(opened) as databases:
             with reading_source(extract) as source:
                 loaded = load(extract, source, given, Parts(*databases), progress)
             progress.show("building indexes")
-        join_parts(longest, others, path, place)
+        join_parts(longest, second, others, path, place)
         # it may have become another one meanwhile
         check_place(place)
         if not force:

@@ -13,7 +13,10 @@ CREATE INDEX changes_journey ON changes (journey, number);
 CREATE UNIQUE INDEX schedules_uid ON schedules (uid, first_date);
 -- Whether a train runs on a date is in these indexes.
 CREATE INDEX schedules_journey ON schedules (journey, passenger, first_date, last_date, days_run, id);
-CREATE INDEX schedules_linked ON schedules (journey, passenger, first_date, last_date, days_run, uid, id) WHERE linked = 1;
+-- Most schedules aren't linked with others, and aren't in this one.
+CREATE INDEX schedules_linked ON schedules (
+    journey, linked, passenger, first_date, last_date, days_run, uid, id
+) WHERE linked = 1;
 CREATE INDEX schedules_dates ON schedules (days_run, first_date, last_date);
 CREATE INDEX schedules_identity ON schedules (identity);
 CREATE INDEX schedules_reserved_a ON schedules (reserved_a);

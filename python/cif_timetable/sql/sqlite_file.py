@@ -23,8 +23,11 @@ EMPTY = float("nan")
 MOST_ROWS = 32
 MOST_CELLS = 999
 
-# The table that takes as long as all others.
+# The tables that take as long as all others.
 LONGEST = "calls"
+SECOND = "public_calls"
+# How many pages of 4 kB a reader keeps by default. A board looks at some thousand, of which many are met again.
+CACHE_PAGES = 16384
 
 # The moment of an extract, then its window. One without a moment is older than all others.
 Age = tuple[str, str, str]
@@ -134,15 +137,14 @@ def opened(path: Path, place: Path) -> Iterator[sqlite3.Connection]:
 
 
 class Parts(Database):
-    """A database in two parts, of which one has the longest table, and the other one the others."""
+    """A database in three parts, of which two have a long table each, and the last one the others."""
 
-    def __init__(self, longest: Database, others: Database) -> None:
-        self.longest = longest
+    def __init__(self, longest: Database, second: Database, others: Database) -> None:
+        self.of_table = {LONGEST: longest, SECOND: second}
         self.others = others
 
     def fill(self, table: str, names: Sequence[str], rows: bytes) -> None:
-        part = self.longest if table == LONGEST else self.others
-        part.fill(table, names, rows)
+        self.of_table.get(table, self.others).fill(table, names, rows)
 
 
 @contextmanager
@@ -156,17 +158,20 @@ def new_part(part: Path, place: Path) -> Iterator[SqliteFile]:
         connection.executescript(sql("indexes") + sql("blanks"))
 
 
-def join_parts(longest: Path, others: Path, path: Path, place: Path) -> None:
+def join_parts(longest: Path, second: Path, others: Path, path: Path, place: Path) -> None:
     """Makes a database of its parts, in an empty file. SQLite copies what is defined alike as it is,
     and fills all pages."""
     with opened(longest, place) as connection:
         connection.execute("VACUUM INTO ?", (str(path),))
     with opened(path, place) as connection:
         connection.execute(f"PRAGMA application_id = {APPLICATION}")
+        connection.execute(f"PRAGMA default_cache_size = {CACHE_PAGES}")
         tables = "SELECT name FROM main.sqlite_master WHERE type = 'table'"
-        names = {name for (name,) in connection.execute(tables)} - {LONGEST}
+        names = {name for (name,) in connection.execute(tables)} - {LONGEST, SECOND}
+        connection.execute("ATTACH ? AS second", (str(second),))
         connection.execute("ATTACH ? AS others", (str(others),))
         connection.execute("BEGIN")
+        connection.execute(f"INSERT INTO main.{SECOND} SELECT * FROM second.{SECOND}")
         for name in sorted(names):
             connection.execute(f"INSERT INTO main.{name} SELECT * FROM others.{name}")
         connection.execute("COMMIT")
