@@ -7,8 +7,8 @@ ghost use Rattle.cif_tool.specs.CommandLine.{AreChoices, IsCommand, argument, ch
 
 use crate::help;
 use Argument::{
-    All, Common, Date, DropClashes, File, Form, Format, FromDate, Full, Holidays, InSequence, Left,
-    Lenient, Right, Stops, Table, TableFormat, ToDate, Uid, Updates, Verbose,
+    All, CallingAt, Common, Date, DropClashes, File, Form, Format, FromDate, Full, Holidays, InSequence, Left,
+    Lenient, Place, Right, Stops, Table, TableFormat, ToDate, Uid, Updates, Verbose,
 };
 use clap::{Arg, ArgAction, ArgMatches, Command};
 use std::alloc::{AllocError, Global};
@@ -30,6 +30,8 @@ enum Syntax {
     Name,
     /// By `--ID YYMMDD`.
     Date,
+    /// By `--ID PLACE`.
+    Place,
     /// By `--ID FORM`.
     Form,
     /// By `--ID FORMAT`, where text is the default.
@@ -64,6 +66,8 @@ enum Argument {
     Format,
     TableFormat,
     Table,
+    Place,
+    CallingAt,
 }
 
 impl Argument {
@@ -93,6 +97,8 @@ impl Argument {
             Format => ("format", Syntax::Format, help::FORMAT),
             TableFormat => ("format", Syntax::TableFormat, help::TABLE_FORMAT),
             Table => ("TABLE", Syntax::Table, help::TABLES),
+            Place => ("PLACE", Syntax::Required, help::PLACE),
+            CallingAt => ("calling-at", Syntax::Place, help::CALLING_AT),
         }
     }
 }
@@ -145,6 +151,7 @@ fn arg_of<'a>(alloc: Global, given: (&'a str, Syntax, &'a str), choices: &Choice
         Syntax::Verbose => flag(arg.short('v'), id),
         Syntax::Name => option(arg, id, "FILE"),
         Syntax::Date => option(arg, id, "YYMMDD"),
+        Syntax::Place => option(arg, id, "PLACE"),
         Syntax::Form => one_of_or(option(arg, id, "FORM"), choices.forms, "2"),
         // Help would have these, and the names of tables, in a line of more than 80 columns.
         Syntax::Format => one_of_or(
@@ -209,7 +216,7 @@ fn with_parts<'a>(
 }
 
 /// All subcommands, in the order of the help.
-static SUBCOMMANDS: [Parts<'static>; 12] = [
+static SUBCOMMANDS: [Parts<'static>; 14] = [
     (
         "normalise",
         help::NORMALISE,
@@ -255,6 +262,16 @@ static SUBCOMMANDS: [Parts<'static>; 12] = [
         "calendar",
         help::CALENDAR,
         &[Verbose, Uid, File, FromDate, ToDate, Format],
+    ),
+    (
+        "departures",
+        help::DEPARTURES,
+        &[Verbose, Place, Date, File, CallingAt, Format],
+    ),
+    (
+        "arrivals",
+        help::ARRIVALS,
+        &[Verbose, Place, Date, File, Format],
     ),
     (
         "prepare",

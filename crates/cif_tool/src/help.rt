@@ -236,6 +236,43 @@ Statuses:
   3  the input is refused, or the dates asked for don't fit its window
   4  reading or writing failed, or memory ran out";
 
+pub(crate) const DEPARTURES: &str = "\
+Lists what leaves from a place on a date
+Prints a line for each call at which riders may get on, by the time of day:
+  TIME PLATFORM OPERATOR IDENTITY UID DESTINATION
+PLACE is a TIPLOC or a CRS code, in capitals or not. Times and the date are those
+of the clock: a train of the evening before that calls after midnight is there.
+With --calling-at only trains are listed on which riders may get off at that
+place later, with the time there after the first. --format tsv prints a table
+instead, with field names in the first line, in which the date on which the train
+runs stands too, and --format json an object a line.
+
+Examples:
+  cif departures EUS 2026-06-05 extract.cif
+  cif departures --calling-at MKC EUS 2026-06-05 extract.cif
+
+Statuses:
+  0  success, even if nothing leaves
+  2  a usage error
+  3  the input is refused, or the date isn't in its window
+  4  reading or writing failed, or memory ran out";
+
+pub(crate) const ARRIVALS: &str = "\
+Lists what arrives at a place on a date
+Prints a line for each call at which riders may get off, by the time of day:
+  TIME PLATFORM OPERATOR IDENTITY UID ORIGIN
+PLACE is a TIPLOC or a CRS code, in capitals or not. Times, the date and --format
+are as in `cif departures`.
+
+Example:
+  cif arrivals EUS 2026-06-05 extract.cif
+
+Statuses:
+  0  success, even if nothing arrives
+  2  a usage error
+  3  the input is refused, or the date isn't in its window
+  4  reading or writing failed, or memory ran out";
+
 pub(crate) const PREPARE: &str = "\
 Turns a published extract into one that all commands read
 Prints an extract in which the same runs on each date of the window, without
@@ -308,6 +345,10 @@ pub(crate) const TABLES: &str =
     "header, tiplocs, associations, schedules, calls, changes or public";
 
 pub(crate) const DATE: &str = "The date, such as 260114 or 2026-01-14";
+
+pub(crate) const PLACE: &str = "The place: a TIPLOC or a CRS code, such as EUSTON or EUS";
+
+pub(crate) const CALLING_AT: &str = "Only trains that call at PLACE later";
 
 pub(crate) const UID: &str = "The UID of the train: six characters; quote it if it has a space";
 

@@ -8,7 +8,7 @@ use cif_columns::{Day, Sink, Uid, WriteDevice};
 use cif_extract::Fault;
 use cif_feed::Waived;
 use cif_rows::Format;
-use cif_views::{Listing, Table};
+use cif_views::{Board, Listing, Table};
 use cif_weeks::Form;
 use clap::error::ErrorKind;
 use std::alloc::AllocError;
@@ -73,6 +73,8 @@ pub enum Job {
     Table(TableJob),
     /// To show which records of a train win on each date.
     Calendar(CalendarJob),
+    /// To list what leaves from a place on a date, or arrives there.
+    Board(BoardJob),
 }
 
 /// Of which canonical extract `normalise`, `check` and `table` are asked for something.
@@ -144,6 +146,13 @@ pub struct CalendarJob {
     pub format: Format,
 }
 
+/// What `departures` and `arrivals` are asked for.
+#[derive(Clone, Copy)]
+pub struct BoardJob {
+    pub board: Board,
+    pub format: Format,
+}
+
 /// What a command that reads published extracts is asked for.
 #[derive(Clone, Copy)]
 pub enum FeedJob {
@@ -179,6 +188,8 @@ pub enum JobFault {
     BadDate,
     /// A word that stands for a UID isn't six bytes from 0x20 to 0x7E.
     BadUid,
+    /// A word that stands for a place isn't 1 to 7 bytes from 0x21 to 0x7E.
+    BadPlace,
     /// Two of these inputs are the standard input.
     StandardInputTwice(Inputs),
     /// Memory ran out.
@@ -245,6 +256,7 @@ impl JobFault {
             JobFault::NoCommand
             | JobFault::BadDate
             | JobFault::BadUid
+            | JobFault::BadPlace
             | JobFault::StandardInputTwice(_) => USAGE_ERROR,
             JobFault::Memory => FAILED,
         }
@@ -259,6 +271,7 @@ impl JobFault {
             JobFault::NoCommand => "cif: no command\n",
             JobFault::BadDate => "cif: bad date\n",
             JobFault::BadUid => "cif: bad UID\n",
+            JobFault::BadPlace => "cif: bad place\n",
             JobFault::StandardInputTwice(Inputs::LeftAndRight) => {
                 "cif: LEFT and RIGHT are both standard input\n"
             }

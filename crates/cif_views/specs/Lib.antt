@@ -1,4 +1,5 @@
 pub mod AllFields
+pub mod Boards
 pub mod Calls
 pub mod Clashes
 pub mod DateCalendar
@@ -6,6 +7,7 @@ pub mod DifferenceTable
 pub mod Explanation
 pub mod Listing
 pub mod Moments
+pub mod Places
 pub mod PublicCalls
 pub mod RowsOfDifferences
 pub mod SameTables

@@ -135,6 +135,24 @@ impl Moment {
         }
     }
 
+    /// The seconds from midnight by the clock.
+    pub(crate) fn clock(self) -> u32
+        requires { midnight ≤ self }
+        ensures value { result ≡ (self - midnight) % DAY }
+        ensures within { result < DAY }
+    {
+        self.seconds
+    }
+
+    /// How many midnights it is after the schedule's date.
+    pub(crate) fn midnights(self) -> u128
+        requires { midnight ≤ self }
+        ensures value { result ≡ (self - midnight) / DAY }
+        ensures few { result + 2 ^ 64 < 2 ^ 128 }
+    {
+        self.day - FIRST_DAY
+    }
+
     /// Adds to the row its time as HH:MM:SS, counted from the midnight at which the schedule's date begins.
     pub(crate) fn push_to<F: RowFormat, W: WriteDevice>(
         self,
@@ -189,6 +207,14 @@ impl Moment {
             text.as_str().as_bytes(),
         );
     }
+}
+
+/// The time of day HH:MM:SS with these seconds from midnight.
+pub(crate) fn time_of_day(seconds: u32) -> [u8; 8]
+    requires { seconds < DAY }
+    ensures { result ≡ time_text seconds }
+{
+    clock_text((seconds / 3_600) as u8, seconds)
 }
 
 /// An hour of two digits, and the minute and the second of this time of day.

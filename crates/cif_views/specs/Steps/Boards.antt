@@ -1,0 +1,1 @@
+-- The rows of a board as the code makes them, schedule by schedule. No public clause cites them.
