@@ -7,8 +7,8 @@ use Rattle.cif_canon.specs.declared.asked.Asked.{Asked}
 use Rattle.cif_rows.specs.declared.format.Format.{Format}
 use Rattle.cif_rows.specs.declared.format.Format.TheVariants as format
 use Rattle.cif_views.specs.declared.{listing.Listing.Listing, tables.Table.Table as TableOf}
-use Rattle.cif_views.specs.{Places.IsPlaceOf, declared.boards.BoardKind.BoardKind, declared.boards.BoardKind.TheVariants.Arrivals}
-use Rattle.cif_views.specs.declared.{boards.BoardKind.TheVariants.Departures, places.Place.Place}
+use Rattle.cif_views.specs.{Places.IsPlaceOf, declared.board.BoardKind.BoardKind, declared.board.BoardKind.TheVariants.Arrivals}
+use Rattle.cif_views.specs.declared.{board.BoardKind.TheVariants.Departures, places.Place.Place}
 use Rattle.cif_views.specs.declared.tables.Table.TheVariants as table
 use Rattle.cif_columns.specs.{DateWord.IsDateWord, Uid.IsUid}
 use Rattle.cif_feed.specs.declared.{changes.Waived.TheVariants.Everything, changes.Waived.TheVariants.Keys}

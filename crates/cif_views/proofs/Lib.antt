@@ -1,4 +1,5 @@
 mod AllFields
+pub mod BoardTexts
 pub mod CallRows
 pub mod ClashLists
 mod DifferingCells
@@ -6,6 +7,7 @@ pub mod DifferingFields
 mod ExplainedMarks
 mod ExplainedTexts
 mod Explaining
+pub mod LongDates
 pub mod Moments
 mod OneDifference
 mod PairedBodies

@@ -1,11 +1,10 @@
 -- Boards: what leaves from a place on a date, and what arrives there.
-use Rattle.std.specs.Prelude.{All, AllPairs, Bool, Contains, IsTrue, List, None, Option, Some, [], codes, drop, if◌then◌else◌, map, not, option_map, pos}
-use Rattle.std.specs.Prelude.{reverse, slice_get, slice_index_or, take, unwrap_or, ℕ, ⊥, ◌%◌, ◌&&◌, ◌++◌, ◌+ℤ◌, ◌+◌, ◌-◌, ◌/◌, ◌<◌, ◌×◌, ◌↔◌, ◌∷◌, ◌≡◌}
+use Rattle.std.specs.Prelude.{All, AllPairs, Bool, Contains, IsTrue, List, None, Option, Some, [], codes, drop, if◌then◌else◌, map, nat_le, not, option_map}
+use Rattle.std.specs.Prelude.{reverse, slice_get, slice_index_or, take, unwrap_or, ℕ, ◌%◌, ◌&&◌, ◌++◌, ◌+◌, ◌-◌, ◌/◌, ◌<◌, ◌↔◌, ◌∷◌, ◌≡◌}
 use Rattle.std.specs.{Cmp.Lexicographic.pointwise, Cmp.Lexicographic.slice_cmp, List.find, List.flat_map, Ordering.nat_cmp}
 use Rattle.std.specs.{Ordering.ordering_then, Prelude.nat_eq, declared.cmp.Ordering.Ordering, declared.cmp.Ordering.TheVariants.Less}
-use Rattle.jiff.specs.{Types.Date, Words.epoch_day}
 use Rattle.cif_calendar.specs.{Entries.schedule_entries, Keys.of_key, Runs.BodyRuns}
-use Rattle.cif_columns.specs.{DayDigits.yymmdd_of, Digits.two_digits, Field.columns}
+use Rattle.cif_columns.specs.{DayDigits.date_of, DayDigits.yymmdd_of, Digits.two_digits, Field.columns}
 use Rattle.cif_canon.specs.{Accepted.IsClearExtract, Asked.header_window, Tiplocs.AreDistinct}
 use Rattle.cif_extract.specs.{Body.BodyLines, ExtractParts.ExtractParts}
 use Rattle.cif_records.specs.declared.tiploc.Tiploc.{Tiploc}
@@ -13,14 +12,14 @@ use Rattle.cif_weeks.specs.Window.{IsWithin}
 use Rattle.cif_rows.specs.Row.{Field, Value, heading_text, named, number, row_text, text, trimmed}
 use Rattle.cif_rows.specs.declared.format.{Format.Format, Format.TheVariants.Text}
 use Rattle.cif_rows.specs.declared.shape.Shape.TheVariants.{Date, Whole}
-use Rattle.cif_views.specs.Moments.{day, midnight, time_text}
+use Rattle.cif_views.specs.{ClockTimes.by_the_clock, Moments.time_text, declared.moment.ClockTime.ClockTime}
 use Rattle.cif_views.specs.Places.{IsNamed, name_of, tiploc_of}
 use Rattle.cif_views.specs.PublicCalls.{ArePublicCalls, PublicCall, pick_up, platform_in, riders_of, set_down, times_of}
 use Rattle.cif_views.specs.Tables.{extra_in, kind_of_line}
-use Rattle.cif_views.specs.declared.boards.{Board.Board, BoardKey.BoardKey, BoardKind.BoardKind, BoardRow.BoardRow, BoardTrain.BoardTrain, CallingAt.CallingAt}
+use Rattle.cif_views.specs.declared.board.{Board.Board, BoardKey.BoardKey, BoardKind.BoardKind, BoardRow.BoardRow, BoardTrain.BoardTrain, CallingAt.CallingAt}
 use Rattle.cif_views.specs.declared.places.Place.{Place}
-use Rattle.cif_views.specs.declared.boards.BoardKind.TheVariants.{Arrivals, Departures}
-use Rattle.cif_views.specs.declared.public_calls.PublicStop.{PublicStop}
+use Rattle.cif_views.specs.declared.board.BoardKind.TheVariants.{Arrivals, Departures}
+use Rattle.cif_views.specs.declared.public_stop.PublicStop.{PublicStop}
 
 -- ---- the public calls of a train
 
@@ -34,8 +33,8 @@ stop_of p = record {
   call = p.call.call;
   location = columns 3 9 p.call.line;
   platform = (platform_in (kind_of_line p.call.line) p.call.line).1;
-  arrival = p.arrival;
-  departure = p.departure;
+  arrival = by_the_clock p.arrival;
+  departure = by_the_clock p.departure;
   gets_off = may (set_down (riders_of p.call.line) (times_of p.call.line));
   gets_on = may (pick_up (riders_of p.call.line) (times_of p.call.line));
 }
@@ -72,39 +71,28 @@ board_train body stops = record {
 
 -- ---- calls at a place
 
--- the moment of a call that a board shows, and whether it shows the call: riders get on where a train departs, and off where it arrives
-abbrev pub moment : BoardKind → PublicStop → ℕ
-moment Departures stop = stop.departure
-moment Arrivals stop = stop.arrival
+-- when a board shows a call, and whether it does: riders get on where a train departs, and off where it arrives
+abbrev pub clock_time : BoardKind → PublicStop → ClockTime
+clock_time Departures stop = stop.departure
+clock_time Arrivals stop = stop.arrival
 
-abbrev pub is_open : BoardKind → PublicStop → Bool
-is_open Departures stop = stop.gets_on
-is_open Arrivals stop = stop.gets_off
+abbrev pub is_shown : BoardKind → PublicStop → Bool
+is_shown Departures stop = stop.gets_on
+is_shown Arrivals stop = stop.gets_off
 
--- the time of day of a moment by the clock, in seconds, and how many midnights it is after the schedule's date
-abbrev pub clock : ℕ → ℕ
-clock m = (m - midnight) % day
+-- the date YYYY-MM-DD of the day with this number, up to 31 December 9999
+unfoldable pub date_text : ℕ → List ℕ
+date_text n =
+    let d = date_of n in
+    (two_digits (d.year / 100) ++ two_digits (d.year % 100)) ++ ((45 ∷ two_digits d.month) ++ (45 ∷ two_digits d.day))
 
-abbrev pub midnights : ℕ → ℕ
-midnights m = (m - midnight) / day
-
--- The text is the date YYYY-MM-DD of the day with this number, or there is none, as its year has five digits.
-pub record IsDateText (n : ℕ) (text : List ℕ) : Type 0 where
-  pub date : Date
-  pub is : epoch_day date +ℤ pos 3653 ≡ pos n
-  pub year : ℕ
-  pub in_year : date.year ≡ pos year
-  pub spelled : text ≡ (two_digits (year / 100) ++ two_digits (year % 100))
-      ++ ((45 ∷ two_digits date.month) ++ (45 ∷ two_digits date.day))
-
-abbrev pub IsDateIn : ℕ → Option (List ℕ) → Type 0
-IsDateIn n None = 2936549 < n
-IsDateIn n (Some text) = IsDateText n text
+abbrev pub date_on : ℕ → Option (List ℕ)
+date_on n = if nat_le n 2936549 then Some (date_text n) else None
 
 -- riders may get off at a call that the place names
 pub record IsGoal (x : ExtractParts) (goal : Place) (stop : PublicStop) : Type 0 where
   pub at : IsNamed x.tiplocs goal stop.location
-  pub open : IsTrue stop.gets_off
+  pub riders : IsTrue stop.gets_off
 
 -- of the later calls, this is the first such: its location, the date on which a train of this date arrives there, and the time of day
 pub record IsFirstGoal (x : ExtractParts) (goal : Place) (train_date : ℕ) (later : List PublicStop) (calling : CallingAt) : Type 0 where
@@ -115,8 +103,8 @@ pub record IsFirstGoal (x : ExtractParts) (goal : Place) (train_date : ℕ) (lat
   pub none_before : All (λ s. ¬ IsGoal x goal s) passed
   pub is_goal : IsGoal x goal stop
   pub location : calling.location ≡ stop.location
-  pub date : IsDateIn (train_date + midnights stop.arrival) calling.date
-  pub time : calling.time ≡ clock stop.arrival
+  pub date : calling.date ≡ date_on (train_date + stop.arrival.midnights)
+  pub time : calling.time ≡ stop.arrival.time
 
 abbrev pub IsCallingAt : ExtractParts → Option Place → ℕ → List PublicStop → Option CallingAt → Type 0
 IsCallingAt x None train_date later None = Unit {0}
@@ -136,9 +124,9 @@ pub record IsBoardRow (x : ExtractParts) (board : Board) (row : BoardRow) : Type
   pub later : List PublicStop
   pub public : ArePublicStops body (earlier ++ (stop ∷ later))
   pub at : IsNamed x.tiplocs board.place stop.location
-  pub open : IsTrue (is_open board.kind stop)
-  pub on_date : row.key.train_date + midnights (moment board.kind stop) ≡ board.day
-  pub time : row.key.time ≡ clock (moment board.kind stop)
+  pub riders : IsTrue (is_shown board.kind stop)
+  pub on_date : row.key.train_date + (clock_time board.kind stop).midnights ≡ board.day
+  pub time : row.key.time ≡ (clock_time board.kind stop).time
   pub call : row.key.call ≡ stop.call
   pub location : row.location ≡ stop.location
   pub platform : row.platform ≡ stop.platform
@@ -163,22 +151,23 @@ pub record AreBoardRows (x : ExtractParts) (board : Board) (rows : List BoardRow
 abbrev pub name_in : List Tiploc → List ℕ → List ℕ
 name_in tiplocs location = unwrap_or (option_map name_of (find (λ t. pointwise nat_eq (tiploc_of t) location) tiplocs)) (codes "                          ")
 
--- the fields of a row in a table
-abbrev pub date_cell : Option (List ℕ) → Value
-date_cell None = (Whole, [])
-date_cell (Some date) = (Whole, date)
+-- the value of a date, which is nothing where there is none
+abbrev pub date_value : Option (List ℕ) → Value
+date_value None = (Whole, [])
+date_value (Some date) = (Whole, date)
 
+-- the fields of a row in a table
 abbrev pub calling_fields : Option CallingAt → List Field
 calling_fields None = []
 calling_fields (Some c) =
     named (codes "calling_at") (text c.location)
-    ∷ named (codes "calling_at_date") (date_cell c.date)
+    ∷ named (codes "calling_at_date") (date_value c.date)
     ∷ named (codes "calling_at_time") (Whole, time_text c.time)
     ∷ []
 
-abbrev pub table_fields : Board → List Tiploc → BoardRow → List Field
-table_fields board tiplocs row =
-    named (codes "date") (Date, yymmdd_of board.day)
+abbrev pub train_fields : ℕ → BoardRow → List Field
+train_fields d row =
+    named (codes "date") (Date, yymmdd_of d)
     ∷ named (codes "time") (Whole, time_text row.key.time)
     ∷ named (codes "train_date") (Date, yymmdd_of row.key.train_date)
     ∷ named (codes "uid") (Whole, row.key.uid)
@@ -186,14 +175,26 @@ table_fields board tiplocs row =
     ∷ named (codes "operator_code") (text row.train.operator)
     ∷ named (codes "category") (text row.train.category)
     ∷ named (codes "status") (text row.train.status)
-    ∷ named (codes "location") (text row.location)
+    ∷ []
+
+abbrev pub call_fields : BoardRow → List Field
+call_fields row =
+    named (codes "location") (text row.location)
     ∷ named (codes "platform") (text row.platform)
     ∷ named (codes "call") (number row.key.call)
-    ∷ named (codes "origin") (text row.train.origin)
-    ∷ named (codes "origin_name") (text (name_in tiplocs row.train.origin))
-    ∷ named (codes "destination") (text row.train.destination)
-    ∷ named (codes "destination_name") (text (name_in tiplocs row.train.destination))
-    ∷ calling_fields row.calling_at
+    ∷ []
+
+abbrev pub end_fields : List Tiploc → BoardTrain → List Field
+end_fields tiplocs train =
+    named (codes "origin") (text train.origin)
+    ∷ named (codes "origin_name") (text (name_in tiplocs train.origin))
+    ∷ named (codes "destination") (text train.destination)
+    ∷ named (codes "destination_name") (text (name_in tiplocs train.destination))
+    ∷ []
+
+abbrev pub table_fields : ℕ → List Tiploc → BoardRow → List Field
+table_fields d tiplocs row =
+    train_fields d row ++ (call_fields row ++ (end_fields tiplocs row.train ++ calling_fields row.calling_at))
 
 -- The fields of a line of text: the hour and the minute, those at the place where the train has to call, and the other end of the train by
 -- its name, or by its TIPLOC if it has none.
@@ -205,8 +206,8 @@ abbrev pub or_else : List ℕ → List ℕ → List ℕ
 or_else [] other = other
 or_else (b ∷ cell) other = b ∷ cell
 
-abbrev pub end_text : BoardKind → List Tiploc → BoardTrain → List ℕ
-end_text kind tiplocs train = or_else (trimmed (name_in tiplocs (end_of kind train))) (trimmed (end_of kind train))
+abbrev pub end_text : List Tiploc → List ℕ → List ℕ
+end_text tiplocs end = or_else (trimmed (name_in tiplocs end)) (trimmed end)
 
 abbrev pub hour_and_minute : ℕ → List ℕ
 hour_and_minute time = take 5 (time_text time)
@@ -215,19 +216,19 @@ abbrev pub calling_time : Option CallingAt → List Field
 calling_time None = []
 calling_time (Some c) = named (codes "calling_at_time") (Whole, hour_and_minute c.time) ∷ []
 
-abbrev pub line_fields : Board → List Tiploc → BoardRow → List Field
-line_fields board tiplocs row =
+abbrev pub line_fields : BoardKind → List Tiploc → BoardRow → List Field
+line_fields kind tiplocs row =
     (named (codes "time") (Whole, hour_and_minute row.key.time) ∷ calling_time row.calling_at)
     ++ (named (codes "platform") (text row.platform)
     ∷ named (codes "operator_code") (text row.train.operator)
     ∷ named (codes "identity") (text row.train.identity)
     ∷ named (codes "uid") (Whole, row.key.uid)
-    ∷ named (codes "end") (text (end_text board.kind tiplocs row.train))
+    ∷ named (codes "end") (text (end_text tiplocs (end_of kind row.train)))
     ∷ [])
 
 abbrev pub board_fields : Format → Board → List Tiploc → BoardRow → List Field
-board_fields Text board tiplocs row = line_fields board tiplocs row
-board_fields _ board tiplocs row = table_fields board tiplocs row
+board_fields Text board tiplocs row = line_fields board.kind tiplocs row
+board_fields _ board tiplocs row = table_fields board.day tiplocs row
 
 abbrev pub calling_names : Option Place → List (List ℕ)
 calling_names None = []
@@ -239,6 +240,10 @@ board_names board =
     ∷ codes "status" ∷ codes "location" ∷ codes "platform" ∷ codes "call" ∷ codes "origin" ∷ codes "origin_name" ∷ codes "destination"
     ∷ codes "destination_name" ∷ calling_names board.calling_at
 
+abbrev pub board_text : Format → Board → List Tiploc → List BoardRow → List ℕ
+board_text format board tiplocs rows =
+    heading_text format (board_names board) ++ flat_map (λ row. row_text format (board_fields format board tiplocs row)) rows
+
 -- The text is a board of the extract, which is clear, on a date of its window.
 pub record IsBoard (format : Format) (x : ExtractParts) (board : Board) (text : List ℕ) : Type 0 where
   pub within : IsWithin (header_window x.header) board.day
@@ -247,4 +252,4 @@ pub record IsBoard (format : Format) (x : ExtractParts) (board : Board) (text : 
   pub are_tiplocs : AreDistinct x.tiplocs tiplocs
   pub rows : List BoardRow
   pub are_rows : AreBoardRows x board rows
-  pub text_is : text ≡ heading_text format (board_names board) ++ flat_map (λ row. row_text format (board_fields format board tiplocs row)) rows
+  pub text_is : text ≡ board_text format board tiplocs rows

@@ -2,6 +2,7 @@ pub mod AllFields
 pub mod Boards
 pub mod Calls
 pub mod Clashes
+pub mod ClockTimes
 pub mod DateCalendar
 pub mod DifferenceTable
 pub mod Explanation

@@ -1,95 +1,30 @@
 //! What leaves from a place on a date, and what arrives there, by the clock.
-ghost use Rattle.std.specs.Prelude.{◌≡◌, ◌↔◌, ◌<◌, ◌≤◌, ◌+◌, ◌-◌, ◌++◌, ◌∷◌, [], ℕ, Contains, IfErr, IfOk, IfSome, IsTrue, List, OnOk, Some, length, map};
-ghost use Rattle.std.specs.{List.find, List.flat_map, Option.SomeIff};
-ghost use Rattle.cif_canon.specs.{Canon.AreCanonSchedules, Normalised.FaultWrites, Normalised.IfWritten, Tiplocs.AreDistinct, Views.IsDayFault};
-ghost use Rattle.cif_columns.specs.Day.{IsDay};
+ghost use Rattle.std.specs.Prelude.{◌≡◌, ◌≤◌, ◌+◌, ◌-◌, ◌++◌, ℕ, IfErr, IfOk, List, None, OnOk, Some, cond, nat_le, option_map, pos};
+ghost use Rattle.std.specs.List.{list_any};
+ghost use Rattle.cif_canon.specs.{Normalised.FaultWrites, Normalised.IfWritten, Views.IsDayFault};
+ghost use Rattle.cif_columns.specs.Field.{columns_from};
+ghost use Rattle.jiff.specs.Words.{IsBetween};
 ghost use Rattle.cif_extract.specs.ExtractParts.{extract_parts};
-ghost use Rattle.cif_rows.specs.{Adds.Adds, Appended.IsAppended, Row.heading_text, Row.row_text, Steps.fields_text};
-ghost use Rattle.cif_views.specs.Boards.{AreBoardRows, IsBoard, IsDateIn, board_fields, board_names, board_train, calling_fields, calling_time};
-ghost use Rattle.cif_views.specs.Boards.{destination_in, end_text, is_open, line_fields, moment, name_in, origin_in, table_fields};
-ghost use Rattle.cif_views.specs.Steps.Boards.{calling_from, goal_from, row_if, rows_from, rows_of, rows_of_each};
+ghost use Rattle.cif_views.specs.Boards.{IsBoard, board_train, clock_time, date_on, date_text, destination_in};
+ghost use Rattle.cif_views.specs.Boards.{is_shown, origin_in};
+ghost use Rattle.cif_views.specs.Steps.Boards.{AreRowsOf, calling_from, goal_in, is_at, row_if, rows_of};
 
+use crate::board::{Board, BoardKey, BoardKind, BoardRow, BoardTrain, CallingAt};
+use crate::board_text::write_rows;
 use crate::columns::extra_among;
-use crate::moment::time_of_day;
-use crate::places::{Locations, Place, location_name};
-use crate::public_calls::{PublicStop, public_stops};
+use crate::moment::ClockTime;
+use crate::places::Locations;
+use crate::public_calls::public_stops;
+use crate::public_stop::PublicStop;
 use cif_canon::writing::answer;
 use cif_canon::{CanonSchedule, CanonSchedules, canon_schedules, check_within, distinct_tiplocs};
-use cif_columns::{Day, LineSlice, Sink, Uid, WriteDevice, columns_at, digits_of, used_columns};
+use cif_columns::{Day, LineSlice, Sink, WriteDevice, columns_at, digits_of};
 use cif_extract::{Body, Extract, Fault};
 use cif_records::Tiploc;
-use cif_rows::{Format, Json, Padded, Padding, RowFormat, Rows, Shape, Tsv};
+use cif_rows::{Format, Json, Padded, Tsv};
 use cif_weeks::Form;
 use jiff_core::civil::Date;
 use std::alloc::{AllocError, Global};
-
-/// What a board lists.
-#[derive(Clone, Copy, PartialEq, Eq)]
-pub enum BoardKind {
-    /// Calls at which riders may get on, by when the train leaves.
-    Departures,
-    /// Calls at which riders may get off, by when the train arrives.
-    Arrivals,
-}
-
-/// What a board is asked for.
-#[derive(Clone, Copy)]
-pub struct Board {
-    /// Whether trains leave or arrive.
-    pub kind: BoardKind,
-    /// Where.
-    pub place: Place,
-    /// Where they have to call later, so that riders may get off there; anywhere if it is absent.
-    pub calling_at: Option<Place>,
-    /// The date by the clock.
-    pub day: Day,
-}
-
-/// What rows are ordered by, which tells them apart.
-#[derive(Clone, Copy, PartialEq, Eq, PartialOrd, Ord)]
-pub struct BoardKey {
-    /// The seconds from midnight by the clock.
-    pub(crate) time: u32,
-    pub(crate) uid: Uid,
-    /// The date on which the train runs: the board's, or an earlier one.
-    pub(crate) train_date: Day,
-    /// The number of the call among the train's calls.
-    pub(crate) call: usize,
-}
-
-/// What a board says of a train, as columns.
-#[derive(Clone, Copy)]
-pub struct BoardTrain {
-    pub(crate) identity: [u8; 4],
-    pub(crate) operator: [u8; 2],
-    pub(crate) category: [u8; 2],
-    pub(crate) status: [u8; 1],
-    /// The TIPLOCs of its ends, as riders know them.
-    pub(crate) origin: [u8; 7],
-    pub(crate) destination: [u8; 7],
-}
-
-/// When the train calls at the place where it has to call.
-#[derive(Clone, Copy)]
-pub struct CallingAt {
-    pub(crate) location: [u8; 7],
-    /// The date YYYY-MM-DD, up to the year 9999.
-    pub(crate) date: Option<[u8; 10]>,
-    /// The seconds from midnight by the clock.
-    pub(crate) time: u32,
-    ghost in_day: { time < 86400 },
-}
-
-/// A row of a board.
-#[derive(Clone, Copy)]
-pub struct BoardRow {
-    pub(crate) key: BoardKey,
-    pub(crate) location: [u8; 7],
-    pub(crate) platform: [u8; 3],
-    pub(crate) train: BoardTrain,
-    pub(crate) calling_at: Option<CallingAt>,
-    ghost in_day: { key.time < 86400 },
-}
 
 /// Appends the board of what leaves from a place, or arrives there, on a date, in this format: a row for each call, by
 /// the time of day, the UID, the date on which the train runs, and the call. A table begins with the names of its fields.
@@ -122,7 +57,7 @@ pub fn write_board<W: WriteDevice>(
 
 /// What is looked for among the public calls of trains.
 #[derive(Drop)]
-struct BoardSearch {
+struct Wanted {
     kind: BoardKind,
     day: Day,
     place: Locations,
@@ -135,13 +70,15 @@ fn board_rows(
     tiplocs: &[Tiploc],
     schedules: &CanonSchedules<'_>,
     board: &Board,
-) -> Result<Vec<BoardRow>, AllocError> {
+) -> Result<Vec<BoardRow>, AllocError>
+    ensures { IfOk result (λ rows. AreRowsOf tiplocs.now board.now schedules.now rows.items) }
+{
     let place = Locations::of(alloc, tiplocs, &board.place)?;
     let goal = match &board.calling_at {
         Some(goal) => Some(Locations::of(alloc, tiplocs, goal)?),
         None => None,
     };
-    let search = BoardSearch {
+    let wanted = Wanted {
         kind: board.kind,
         day: board.day,
         place,
@@ -149,13 +86,13 @@ fn board_rows(
     };
     let mut rows = Vec::new(alloc);
     for position in 0..schedules.len() {
-        search.add_rows(alloc, &mut rows, &schedules.at(position))?;
+        wanted.add_rows(alloc, &mut rows, &schedules.at(position))?;
     }
     rows.sort_unstable_by_key(|row| row.key);
     Ok(rows)
 }
 
-impl BoardSearch {
+impl Wanted {
     /// Adds the rows of a schedule.
     // Few trains call at the place, and the lines of others are only looked at.
     fn add_rows(
@@ -163,7 +100,9 @@ impl BoardSearch {
         alloc: Global,
         rows: &mut Vec<BoardRow>,
         schedule: &CanonSchedule<'_>,
-    ) -> Result<(), AllocError> {
+    ) -> Result<(), AllocError>
+        ensures { OnOk result (rows.new.items ≡ rows.old.items ++ rows_of self.now schedule.now) }
+    {
         if !are_at(schedule.further(), &self.place) {
             return Ok(());
         }
@@ -186,25 +125,21 @@ impl BoardSearch {
         train: &BoardTrain,
         stop: &PublicStop,
         later: &[PublicStop],
-    ) -> Option<BoardRow> {
-        let (moment, is_open) = match self.kind {
-            BoardKind::Departures => (stop.departure, stop.gets_on),
-            BoardKind::Arrivals => (stop.arrival, stop.gets_off),
-        };
-        if !is_open || !self.place.has(&stop.location) {
+    ) -> Option<BoardRow>
+        ensures { result ≡ row_if self.now schedule.now train.now stop.now later.now }
+    {
+        if !stop.is_shown(self.kind) || !self.place.has(&stop.location) {
             return None;
         }
-        let train_date = date_before(self.day, moment.midnights())?;
+        let ClockTime { midnights, time } = stop.time(self.kind);
+        let train_date = date_before(self.day, midnights)?;
         if !schedule.runs_on(train_date) {
             return None;
         }
-        let calling_at = match &self.goal {
-            Some(goal) => Some(calling_at(goal, train_date, later)?),
-            None => None,
-        };
+        let calling_at = self.calling_at(train_date, later)?;
         Some(BoardRow {
             key: BoardKey {
-                time: moment.clock(),
+                time,
                 uid: *schedule.uid(),
                 train_date,
                 call: stop.call,
@@ -215,10 +150,49 @@ impl BoardSearch {
             calling_at,
         })
     }
+
+    /// When a train of this date calls where it has to, at one of these calls; `None` if it doesn't call there.
+    fn calling_at(&self, train_date: Day, later: &[PublicStop]) -> Option<Option<CallingAt>>
+        ensures { result ≡ calling_from self.now.goal train_date later.now }
+    {
+        let Some(goal) = &self.goal else {
+            return Some(None);
+        };
+        let stop = first_goal(goal, later)?;
+        Some(Some(CallingAt {
+            location: stop.location,
+            date: date_after(train_date, stop.arrival.midnights),
+            time: stop.arrival.time,
+        }))
+    }
+}
+
+impl PublicStop {
+    /// When the train is there, as a board of this kind shows it.
+    fn time(&self, kind: BoardKind) -> ClockTime
+        ensures { result ≡ clock_time kind self.now }
+    {
+        match kind {
+            BoardKind::Departures => self.departure,
+            BoardKind::Arrivals => self.arrival,
+        }
+    }
+
+    /// Whether a board of this kind shows the call.
+    fn is_shown(&self, kind: BoardKind) -> bool
+        ensures { result ≡ is_shown kind self.now }
+    {
+        match kind {
+            BoardKind::Departures => self.gets_on,
+            BoardKind::Arrivals => self.gets_off,
+        }
+    }
 }
 
 /// Whether one of the lines is at one of the locations.
-fn are_at(lines: LineSlice<'_>, place: &Locations) -> bool {
+fn are_at(lines: LineSlice<'_>, place: &Locations) -> bool
+    ensures { result ≡ list_any (λ line. is_at place.now (columns_from 3 7 line)) lines.entry }
+{
     let mut lines = lines;
     while !lines.is_empty() {
         if place.has(&columns_at(&lines.first(), 3)) {
@@ -230,7 +204,9 @@ fn are_at(lines: LineSlice<'_>, place: &Locations) -> bool {
 }
 
 /// The date that is so many days before this one.
-fn date_before(day: Day, days: u128) -> Option<Day> {
+fn date_before(day: Day, days: u128) -> Option<Day>
+    ensures { result ≡ cond (nat_le days day) (Some (day - days)) None }
+{
     let number = u128::from(day.number());
     if days <= number {
         Day::from_number((number - days) as u16)
@@ -239,8 +215,42 @@ fn date_before(day: Day, days: u128) -> Option<Day> {
     }
 }
 
+/// The number of 31 December 9999, counted as days are.
+const LAST_NUMBER: u128 = 2_936_549;
+
+/// The date YYYY-MM-DD that is so many days after this one; `None` after the year 9999.
+fn date_after(day: Day, days: u128) -> Option<[u8; 10]>
+    ensures { result ≡ date_on (day + days) }
+{
+    let number = u128::from(day.number());
+    if days <= LAST_NUMBER - number {
+        Some(date_text((number + days) as u32))
+    } else {
+        None
+    }
+}
+
+/// How many days after 1 January of the year -9999, from which jiff counts, day 0 is.
+const DAYS_BEFORE: u32 = 4_367_934;
+
+/// The date YYYY-MM-DD of the day with this number, up to the year 9999.
+fn date_text(number: u32) -> [u8; 10]
+    requires { number ≤ 2936549 }
+    ensures { result ≡ date_text number }
+{
+    let date = Date::from_days_since_min(number + DAYS_BEFORE);
+    let year = year_of(date);
+    let [a, b] = digits_of((year / 100) as u8);
+    let [c, d] = digits_of((year % 100) as u8);
+    let [e, f] = digits_of(date.month);
+    let [g, h] = digits_of(date.day);
+    [a, b, c, d, b'-', e, f, b'-', g, h]
+}
+
 /// The first of these calls at which riders may get off, at one of the locations.
-fn first_goal<'a>(goal: &Locations, later: &'a [PublicStop]) -> Option<&'a PublicStop> {
+fn first_goal<'a>(goal: &Locations, later: &'a [PublicStop]) -> Option<&'a PublicStop>
+    ensures { option_map (λ stop. stop.now) result ≡ goal_in goal.now later.now }
+{
     for stop in later {
         if stop.gets_off && goal.has(&stop.location) {
             return Some(stop);
@@ -249,39 +259,10 @@ fn first_goal<'a>(goal: &Locations, later: &'a [PublicStop]) -> Option<&'a Publi
     None
 }
 
-/// When a train of this date first calls so that riders may get off, at one of the locations.
-fn calling_at(goal: &Locations, train_date: Day, later: &[PublicStop]) -> Option<CallingAt> {
-    let stop = first_goal(goal, later)?;
-    let day = u128::from(train_date.number()) + stop.arrival.midnights();
-    Some(CallingAt {
-        location: stop.location,
-        date: date_text(day),
-        time: stop.arrival.clock(),
-    })
-}
-
-/// The number of 31 December 9999, counted as days are.
-const LAST_NUMBER: u128 = 2_936_549;
-
-/// How many days after 1 January of the year -9999, from which jiff counts, day 0 is.
-const DAYS_BEFORE: u32 = 4_367_934;
-
-/// The date YYYY-MM-DD of the day with this number; `None` after the year 9999.
-fn date_text(number: u128) -> Option<[u8; 10]> {
-    if number > LAST_NUMBER {
-        return None;
-    }
-    let date = Date::from_days_since_min(number as u32 + DAYS_BEFORE);
-    let year = date.year as u16;
-    let [a, b] = digits_of((year / 100) as u8);
-    let [c, d] = digits_of((year % 100) as u8);
-    let [e, f] = digits_of(date.month);
-    let [g, h] = digits_of(date.day);
-    Some([a, b, c, d, b'-', e, f, b'-', g, h])
-}
-
 /// What a board says of a train with this body and these public calls.
-fn train_of(body: &Body, stops: &[PublicStop]) -> BoardTrain {
+fn train_of(body: &Body, stops: &[PublicStop]) -> BoardTrain
+    ensures { result ≡ board_train body.now stops.now }
+{
     let detail = body.detail_line();
     let extra = extra_among(&body.further_lines());
     BoardTrain {
@@ -298,7 +279,9 @@ fn train_of(body: &Body, stops: &[PublicStop]) -> BoardTrain {
 const NO_LOCATION: [u8; 7] = *b"       ";
 
 /// Where riders first get on, or the first of the calls.
-fn origin_of(stops: &[PublicStop]) -> [u8; 7] {
+fn origin_of(stops: &[PublicStop]) -> [u8; 7]
+    ensures { result ≡ origin_in stops.now }
+{
     for stop in stops {
         if stop.gets_on {
             return stop.location;
@@ -311,7 +294,9 @@ fn origin_of(stops: &[PublicStop]) -> [u8; 7] {
 }
 
 /// Where riders last get off, or the last of the calls.
-fn destination_of(stops: &[PublicStop]) -> [u8; 7] {
+fn destination_of(stops: &[PublicStop]) -> [u8; 7]
+    ensures { result ≡ destination_in stops.now }
+{
     let mut last = NO_LOCATION;
     let mut last_open = None;
     for stop in stops {
@@ -323,301 +308,11 @@ fn destination_of(stops: &[PublicStop]) -> [u8; 7] {
     last_open.unwrap_or(last)
 }
 
-/// Appends the names of the fields, if the format has them, and the rows.
-fn write_rows<F: RowFormat, W: WriteDevice>(
-    board: &Board,
-    tiplocs: &[Tiploc],
-    board_rows: &[BoardRow],
-    sink: &mut Sink<W>,
-) {
-    let mut rows = Rows::<F>::new();
-    push_names(&mut rows, board, sink);
-    for row in board_rows {
-        rows.begin_row(sink);
-        push_row(&mut rows, board, tiplocs, row, sink);
-        rows.end_row(sink);
-    }
-    rows.finish(sink);
-}
-
-/// The names of the fields of a row.
-const BOARD_NAMES: [&str; 15] = [
-    "date",
-    "time",
-    "train_date",
-    "uid",
-    "identity",
-    "operator_code",
-    "category",
-    "status",
-    "location",
-    "platform",
-    "call",
-    "origin",
-    "origin_name",
-    "destination",
-    "destination_name",
-];
-
-/// The names of those of the place where the train has to call.
-const CALLING_NAMES: [&str; 3] = ["calling_at", "calling_at_date", "calling_at_time"];
-
-/// Adds the names of the fields.
-fn push_names<F: RowFormat, W: WriteDevice>(
-    rows: &mut Rows<F>,
-    board: &Board,
-    sink: &mut Sink<W>,
-) {
-    rows.push_names(sink, &BOARD_NAMES);
-    if board.calling_at.is_some() {
-        rows.push_names(sink, &CALLING_NAMES);
-    }
-    rows.end_names();
-}
-
-/// Adds the fields of a row.
-fn push_row<F: RowFormat, W: WriteDevice>(
-    rows: &mut Rows<F>,
-    board: &Board,
-    tiplocs: &[Tiploc],
-    row: &BoardRow,
-    sink: &mut Sink<W>,
-) {
-    match F::FORMAT {
-        Format::Text => push_line(rows, board.kind, tiplocs, row, sink),
-        Format::Tsv | Format::Json => push_fields(rows, board.day, tiplocs, row, sink),
-    }
-}
-
-/// Adds the fields of a row of a table.
-fn push_fields<F: RowFormat, W: WriteDevice>(
-    rows: &mut Rows<F>,
-    day: Day,
-    tiplocs: &[Tiploc],
-    row: &BoardRow,
-    sink: &mut Sink<W>,
-) {
-    push_train(rows, day, row, sink);
-    push_call(rows, row, sink);
-    push_ends(rows, tiplocs, &row.train, sink);
-    push_calling_at(rows, row.calling_at.as_ref(), sink);
-}
-
-/// Adds when a call is, and which train makes it.
-fn push_train<F: RowFormat, W: WriteDevice>(
-    rows: &mut Rows<F>,
-    day: Day,
-    row: &BoardRow,
-    sink: &mut Sink<W>,
-) {
-    let (key, train) = (&row.key, &row.train);
-    rows.push_fields(
-        sink,
-        &[
-            ("date", Padding::Apart, Shape::Date, &day.to_yymmdd()),
-            ("time", Padding::Apart, Shape::Whole, &time_of_day(key.time)),
-            (
-                "train_date",
-                Padding::Apart,
-                Shape::Date,
-                &key.train_date.to_yymmdd(),
-            ),
-            ("uid", Padding::Apart, Shape::Whole, &key.uid.write()),
-            (
-                "identity",
-                Padding::Apart,
-                Shape::Trimmed,
-                &train.identity,
-            ),
-            (
-                "operator_code",
-                Padding::Apart,
-                Shape::Trimmed,
-                &train.operator,
-            ),
-            (
-                "category",
-                Padding::Apart,
-                Shape::Trimmed,
-                &train.category,
-            ),
-            ("status", Padding::Apart, Shape::Trimmed, &train.status),
-        ],
-    );
-}
-
-/// Adds where a call is.
-fn push_call<F: RowFormat, W: WriteDevice>(
-    rows: &mut Rows<F>,
-    row: &BoardRow,
-    sink: &mut Sink<W>,
-) {
-    rows.push_fields(
-        sink,
-        &[
-            (
-                "location",
-                Padding::Apart,
-                Shape::Trimmed,
-                &row.location,
-            ),
-            (
-                "platform",
-                Padding::Apart,
-                Shape::Trimmed,
-                &row.platform,
-            ),
-        ],
-    );
-    rows.push_number(sink, "call", row.key.call);
-}
-
-/// Adds where a train comes from and goes to.
-fn push_ends<F: RowFormat, W: WriteDevice>(
-    rows: &mut Rows<F>,
-    tiplocs: &[Tiploc],
-    train: &BoardTrain,
-    sink: &mut Sink<W>,
-) {
-    rows.push_fields(
-        sink,
-        &[
-            ("origin", Padding::Apart, Shape::Trimmed, &train.origin),
-            (
-                "origin_name",
-                Padding::Apart,
-                Shape::Trimmed,
-                &location_name(tiplocs, &train.origin),
-            ),
-            (
-                "destination",
-                Padding::Apart,
-                Shape::Trimmed,
-                &train.destination,
-            ),
-            (
-                "destination_name",
-                Padding::Apart,
-                Shape::Trimmed,
-                &location_name(tiplocs, &train.destination),
-            ),
-        ],
-    );
-}
-
-/// Adds when the train is where it has to call.
-fn push_calling_at<F: RowFormat, W: WriteDevice>(
-    rows: &mut Rows<F>,
-    calling_at: Option<&CallingAt>,
-    sink: &mut Sink<W>,
-) {
-    let Some(calling_at) = calling_at else {
-        return;
-    };
-    rows.push(
-        sink,
-        "calling_at",
-        Padding::Apart,
-        Shape::Trimmed,
-        &calling_at.location,
-    );
-    push_date(rows, calling_at.date, sink);
-    rows.push(
-        sink,
-        "calling_at_time",
-        Padding::Apart,
-        Shape::Whole,
-        &time_of_day(calling_at.time),
-    );
-}
-
-/// Adds the date on which it calls there.
-fn push_date<F: RowFormat, W: WriteDevice>(
-    rows: &mut Rows<F>,
-    date: Option<[u8; 10]>,
-    sink: &mut Sink<W>,
-) {
-    match date {
-        Some(date) => rows.push(
-            sink,
-            "calling_at_date",
-            Padding::Apart,
-            Shape::Whole,
-            &date,
-        ),
-        None => rows.push(sink, "calling_at_date", Padding::Apart, Shape::Whole, b""),
-    }
-}
-
-/// Adds the fields of a line of text.
-fn push_line<F: RowFormat, W: WriteDevice>(
-    rows: &mut Rows<F>,
-    kind: BoardKind,
-    tiplocs: &[Tiploc],
-    row: &BoardRow,
-    sink: &mut Sink<W>,
-) {
-    push_minute(rows, "time", row.key.time, sink);
-    if let Some(calling_at) = &row.calling_at {
-        push_minute(rows, "calling_at_time", calling_at.time, sink);
-    }
-    let train = &row.train;
-    let end = match kind {
-        BoardKind::Departures => train.destination,
-        BoardKind::Arrivals => train.origin,
-    };
-    rows.push_fields(
-        sink,
-        &[
-            (
-                "platform",
-                Padding::Apart,
-                Shape::Trimmed,
-                &row.platform,
-            ),
-            (
-                "operator_code",
-                Padding::Apart,
-                Shape::Trimmed,
-                &train.operator,
-            ),
-            (
-                "identity",
-                Padding::Apart,
-                Shape::Trimmed,
-                &train.identity,
-            ),
-            ("uid", Padding::Apart, Shape::Whole, &row.key.uid.write()),
-        ],
-    );
-    push_end(rows, tiplocs, end, sink);
-}
-
-/// Adds the hour and the minute of a time of day.
-fn push_minute<F: RowFormat, W: WriteDevice>(
-    rows: &mut Rows<F>,
-    name: &str,
-    seconds: u32,
-    sink: &mut Sink<W>,
-) {
-    let time = time_of_day(seconds);
-    let (minute, _) = time.split_at(5);
-    rows.push(sink, name, Padding::Apart, Shape::Whole, minute);
-}
-
-/// Adds the name of the end of a train, or its TIPLOC if it has none.
-fn push_end<F: RowFormat, W: WriteDevice>(
-    rows: &mut Rows<F>,
-    tiplocs: &[Tiploc],
-    end: [u8; 7],
-    sink: &mut Sink<W>,
-) {
-    let name = location_name(tiplocs, &end);
-    let used = used_columns(&name);
-    if used > 0 {
-        rows.push(sink, "end", Padding::Apart, Shape::Trimmed, &name[..used]);
-    } else {
-        let used = used_columns(&end);
-        rows.push(sink, "end", Padding::Apart, Shape::Trimmed, &end[..used]);
-    }
+/// The year of a date from 1960 on.
+fn year_of(date: Date) -> u16
+    requires { IsBetween (pos 1960) (pos 9999) date.year }
+    ensures year { date.year ≡ pos result }
+    ensures bound { result ≤ 9999 }
+{
+    date.year as u16
 }

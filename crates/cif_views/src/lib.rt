@@ -2,6 +2,8 @@
 //! clash, and what runs, as text or as tables.
 #![tactic(auto)]
 
+mod board;
+mod board_text;
 mod boards;
 mod calendar_dates;
 mod calendar_weeks;
@@ -18,9 +20,11 @@ mod marks;
 mod moment;
 mod places;
 mod public_calls;
+mod public_stop;
 mod tables;
 
-pub use boards::{Board, BoardKind, write_board};
+pub use board::{Board, BoardKind};
+pub use boards::write_board;
 pub use calendar_dates::date_calendar;
 pub use calendar_weeks::week_calendar;
 pub use clash_list::Clashes;

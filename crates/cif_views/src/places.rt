@@ -1,7 +1,9 @@
 //! Places: words that name locations by their TIPLOC or by their CRS code.
-ghost use Rattle.std.specs.Prelude.{◌≡◌, ◌↔◌, ¬◌, All, Contains, IfNone, IfOk, IfSome, IsTrue, List, length, map, ℕ};
-ghost use Rattle.std.specs.Char.{to_ascii_uppercase};
-ghost use Rattle.cif_views.specs.Places.{HasCode, IsNamed, IsPlaceOf, IsPlaceWord, crs_of, name_of, tiploc_of};
+ghost use Rattle.std.specs.Prelude.{◌≡◌, ◌↔◌, All, AllPairs, IfNone, IfOk, IfSome, IsTrue, map};
+ghost use Rattle.std.specs.{Char.is_ascii_graphic, Char.to_ascii_uppercase, Cmp.Lexicographic.slice_cmp, Ordering.nat_cmp};
+ghost use Rattle.std.specs.declared.cmp.Ordering.TheVariants.{Less};
+ghost use Rattle.cif_views.specs.{Boards.name_in, Places.IsPlaceOf, Places.IsPlaceWord, Places.crs_of, Places.tiploc_of};
+ghost use Rattle.cif_views.specs.Steps.Boards.{AreLocations, code_is, is_at};
 
 use cif_columns::columns_at;
 use cif_records::Tiploc;
@@ -76,7 +78,7 @@ fn tiploc_of(tiploc: &Tiploc) -> [u8; 7]
 
 /// Whether the location has the CRS code that the place's word is.
 fn has_code(tiploc: &Tiploc, place: &Place) -> bool
-    ensures { IsTrue result ↔ (place.now.crs ≡ Some (crs_of tiploc.now)) }
+    ensures { result ≡ code_is place.now.crs (crs_of tiploc.now) }
 {
     match place.crs {
         Some(crs) => crs == columns_at::<3>(&tiploc.write(), 54),
@@ -107,7 +109,7 @@ impl Locations {
         tiplocs: &[Tiploc],
         place: &Place,
     ) -> Result<Locations, AllocError>
-        ensures { IfOk result (λ named. (location : List ℕ) → Contains named location ↔ IsNamed tiplocs.now place.now location) }
+        ensures { IfOk result (AreLocations tiplocs.now place.now) }
     {
         let mut named = Vec::new(alloc);
         named.push(place.tiploc)?;
@@ -122,7 +124,7 @@ impl Locations {
 
     /// Whether this is one of them.
     pub(crate) fn has(&self, location: &[u8; 7]) -> bool
-        ensures { IsTrue result ↔ Contains self.now location.now }
+        ensures { result ≡ is_at self.now location.now }
     {
         self.tiplocs.as_slice().binary_search(location).is_ok()
     }
@@ -133,7 +135,10 @@ const NO_NAME: [u8; 26] = [b' '; 26];
 
 /// The name of the location with this TIPLOC, in the first of these locations that has it; spaces if none has. They
 /// have to rise.
-pub(crate) fn location_name(tiplocs: &[Tiploc], location: &[u8; 7]) -> [u8; 26] {
+pub(crate) fn location_name(tiplocs: &[Tiploc], location: &[u8; 7]) -> [u8; 26]
+    requires { AllPairs (λ s t. slice_cmp nat_cmp s.columns t.columns ≡ Less) tiplocs.now }
+    ensures { result ≡ name_in tiplocs.now location.now }
+{
     let position = tiplocs.partition_point(|tiploc| tiploc_of(tiploc) < *location);
     match tiplocs.get(position) {
         Some(tiploc) if tiploc_of(tiploc) == *location => columns_at(&tiploc.write(), 19),

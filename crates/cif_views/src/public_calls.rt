@@ -5,7 +5,7 @@ ghost use Rattle.std.specs.List.{flat_map};
 ghost use Rattle.cif_rows.specs.{Adds.Adds, Appended.IsAppended, Row.all_named, Row.named, Row.row_text, Steps.field_text};
 ghost use Rattle.cif_rows.specs.Steps.{fields_text};
 ghost use Rattle.cif_views.specs.Boards.{stop_of};
-ghost use Rattle.cif_views.specs.Moments.{IsBy, IsOnTheWay, midnight};
+ghost use Rattle.cif_views.specs.Moments.{IsBy, IsOnTheWay};
 ghost use Rattle.cif_views.specs.PublicCalls.{advertised, answer_of, pick_up, platform_in, public_fields, riders_in, riders_of};
 ghost use Rattle.cif_views.specs.PublicCalls.{said_by, set_down, times_in, times_of, working};
 ghost use Rattle.cif_views.specs.Steps.PublicCalls.{at_first, public_call, public_from, reached_moment, shown_at, stay, step, step_at};
@@ -14,6 +14,7 @@ ghost use Rattle.cif_views.specs.Tables.{is_call, kind_of_line, names, numbered_
 
 use crate::columns::{JourneyKind, call_after, kind_of_line};
 use crate::moment::{Moment, TimeOfDay};
+use crate::public_stop::PublicStop;
 use cif_columns::{Line, LineSlice, PublicTime, Sink, WorkTime, WriteDevice, columns_at};
 use cif_rows::{Numeral, Padding, RowFormat, Rows, Shape};
 use std::alloc::{AllocError, Global};
@@ -387,23 +388,6 @@ fn write_step<F: RowFormat, W: WriteDevice>(
     next
 }
 
-/// A public call of a train, as a board shows it.
-#[derive(Clone, Copy)]
-pub(crate) struct PublicStop {
-    /// Its number among the train's calls.
-    pub(crate) call: usize,
-    pub(crate) location: [u8; 7],
-    pub(crate) platform: [u8; 3],
-    /// The moments that the table of public calls shows.
-    pub(crate) arrival: Moment,
-    pub(crate) departure: Moment,
-    /// Whether riders may get off, and on.
-    pub(crate) gets_off: bool,
-    pub(crate) gets_on: bool,
-    ghost arrives: { midnight ≤ arrival },
-    ghost departs: { midnight ≤ departure },
-}
-
 /// Adds the line, which is of this kind, if it is a public call. The journey goes on after it, and the number of the
 /// next call is returned.
 fn add_stop(
@@ -428,8 +412,8 @@ fn add_stop(
             call,
             location: columns_at(line, 3),
             platform: platform_of(kind, line),
-            arrival: shown.arrival,
-            departure: shown.departure,
+            arrival: shown.arrival.by_the_clock(),
+            departure: shown.departure.by_the_clock(),
             gets_off: set_down != b'1',
             gets_on: pick_up != b'1',
         })?;
