@@ -9,10 +9,12 @@ mod ExplainedTexts
 mod Explaining
 pub mod LongDates
 pub mod Moments
+pub mod Named
 mod OneDifference
 mod PairedBodies
 mod PairedJourneys
 mod PublicMoments
+pub mod Searched
 pub mod PublicRows
 pub mod Riders
 mod RowLines
@@ -20,6 +22,7 @@ mod RowsOfDifferences
 mod SameJourneys
 mod SameSchedules
 mod SameTables
+pub mod Stops
 pub mod TableRows
 pub mod WeekLines
 pub mod Names

@@ -1,6 +1,7 @@
 -- Boards: what leaves from a place on a date, and what arrives there.
 use Rattle.std.specs.Prelude.{All, AllPairs, Bool, Contains, IsTrue, List, None, Option, Some, [], codes, drop, if◌then◌else◌, map, nat_le, not, option_map}
-use Rattle.std.specs.Prelude.{reverse, slice_get, slice_index_or, take, unwrap_or, ℕ, ◌%◌, ◌&&◌, ◌++◌, ◌+◌, ◌-◌, ◌/◌, ◌<◌, ◌↔◌, ◌∷◌, ◌≡◌}
+use Rattle.std.specs.Prelude.{slice_get, slice_index_or, take, unwrap_or, ℕ, ◌%◌, ◌&&◌, ◌++◌, ◌+◌, ◌-◌, ◌/◌, ◌<◌, ◌↔◌, ◌∷◌, ◌≡◌}
+use Rattle.std.specs.{Option.option_or, Prelude.true}
 use Rattle.std.specs.{Cmp.Lexicographic.pointwise, Cmp.Lexicographic.slice_cmp, List.find, List.flat_map, Ordering.nat_cmp}
 use Rattle.std.specs.{Ordering.ordering_then, Prelude.nat_eq, declared.cmp.Ordering.Ordering, declared.cmp.Ordering.TheVariants.Less}
 use Rattle.cif_calendar.specs.{Entries.schedule_entries, Keys.of_key, Runs.BodyRuns}
@@ -47,16 +48,16 @@ pub record ArePublicStops (body : BodyLines) (stops : List PublicStop) : Type 0 
 
 -- For riders a train comes from the first call where they may get on, or where there is none from the first; it goes to the last where
 -- they may get off, or else to the last.
-abbrev pub location_of : Option PublicStop → Option PublicStop → List ℕ
-location_of (Some stop) other = stop.location
-location_of None (Some other) = other.location
-location_of None None = codes "       "
-
 abbrev pub origin_in : List PublicStop → List ℕ
-origin_in stops = location_of (find (λ s. s.gets_on) stops) (slice_get stops 0)
+origin_in stops = unwrap_or (option_map (λ s. s.location) (option_or (find (λ s. s.gets_on) stops) (slice_get stops 0))) (codes "       ")
+
+abbrev pub last_location : (PublicStop → Bool) → List PublicStop → Option (List ℕ) → Option (List ℕ)
+last_location test [] found = found
+last_location test (s ∷ stops) found = last_location test stops (if test s then Some s.location else found)
 
 abbrev pub destination_in : List PublicStop → List ℕ
-destination_in stops = location_of (find (λ s. s.gets_off) (reverse stops)) (slice_get (reverse stops) 0)
+destination_in stops =
+    unwrap_or (option_or (last_location (λ s. s.gets_off) stops None) (last_location (λ s. true) stops None)) (codes "       ")
 
 -- what a board says of a train: columns of its BS and its BX, and where it comes from and goes to
 abbrev pub board_train : BodyLines → List PublicStop → BoardTrain
@@ -102,14 +103,16 @@ pub record IsFirstGoal (x : ExtractParts) (goal : Place) (train_date : ℕ) (lat
   pub split : later ≡ passed ++ (stop ∷ after)
   pub none_before : All (λ s. ¬ IsGoal x goal s) passed
   pub is_goal : IsGoal x goal stop
-  pub location : calling.location ≡ stop.location
+  pub location : calling.location ≡ Some stop.location
   pub date : calling.date ≡ date_on (train_date + stop.arrival.midnights)
   pub time : calling.time ≡ stop.arrival.time
 
-abbrev pub IsCallingAt : ExtractParts → Option Place → ℕ → List PublicStop → Option CallingAt → Type 0
-IsCallingAt x None train_date later None = Unit {0}
-IsCallingAt x (Some goal) train_date later (Some calling) = IsFirstGoal x goal train_date later calling
-IsCallingAt x goal train_date later calling = ⊥
+abbrev pub nowhere : CallingAt
+nowhere = record { location = None; date = None; time = 0 }
+
+abbrev pub IsCallingAt : ExtractParts → Option Place → ℕ → List PublicStop → CallingAt → Type 0
+IsCallingAt x None train_date later calling = calling ≡ nowhere
+IsCallingAt x (Some goal) train_date later calling = IsFirstGoal x goal train_date later calling
 
 -- ---- the rows of a board
 
@@ -157,13 +160,16 @@ date_value None = (Whole, [])
 date_value (Some date) = (Whole, date)
 
 -- the fields of a row in a table
-abbrev pub calling_fields : Option CallingAt → List Field
-calling_fields None = []
-calling_fields (Some c) =
-    named (codes "calling_at") (text c.location)
+abbrev pub fields_at : Option (List ℕ) → CallingAt → List Field
+fields_at None c = []
+fields_at (Some location) c =
+    named (codes "calling_at") (text location)
     ∷ named (codes "calling_at_date") (date_value c.date)
     ∷ named (codes "calling_at_time") (Whole, time_text c.time)
     ∷ []
+
+abbrev pub calling_fields : CallingAt → List Field
+calling_fields c = fields_at c.location c
 
 abbrev pub train_fields : ℕ → BoardRow → List Field
 train_fields d row =
@@ -212,9 +218,12 @@ end_text tiplocs end = or_else (trimmed (name_in tiplocs end)) (trimmed end)
 abbrev pub hour_and_minute : ℕ → List ℕ
 hour_and_minute time = take 5 (time_text time)
 
-abbrev pub calling_time : Option CallingAt → List Field
-calling_time None = []
-calling_time (Some c) = named (codes "calling_at_time") (Whole, hour_and_minute c.time) ∷ []
+abbrev pub time_at : Option (List ℕ) → CallingAt → List Field
+time_at None c = []
+time_at (Some location) c = named (codes "calling_at_time") (Whole, hour_and_minute c.time) ∷ []
+
+abbrev pub calling_time : CallingAt → List Field
+calling_time c = time_at c.location c
 
 abbrev pub line_fields : BoardKind → List Tiploc → BoardRow → List Field
 line_fields kind tiplocs row =

@@ -1,6 +1,6 @@
 -- Places: words that name locations by their TIPLOC or by their CRS code.
-use Rattle.std.specs.Prelude.{All, Contains, IsTrue, List, None, Some, if◌then◌else◌, length, map, nat_eq, ℕ, ◌<◌, ◌≡◌, ◌≤◌, ◌⊎◌}
-use Rattle.std.specs.Char.{is_ascii_graphic, to_ascii_uppercase}
+use Rattle.std.specs.Prelude.{Contains, IsTrue, List, None, Some, if◌then◌else◌, length, map, nat_eq, ℕ, ◌<◌, ◌≡◌, ◌≤◌, ◌⊎◌}
+use Rattle.std.specs.{Char.is_ascii_graphic, Char.to_ascii_uppercase, List.list_all}
 use Rattle.cif_columns.specs.{Field.columns, Text.left_justified}
 use Rattle.cif_extract.specs.Texts.{line_of_tiploc}
 use Rattle.cif_records.specs.declared.tiploc.Tiploc.{Tiploc}
@@ -11,7 +11,7 @@ use Rattle.cif_views.specs.declared.places.Place.{Place}
 pub record IsPlaceWord (word : List ℕ) : Type 0 where
   pub some : 0 < length word
   pub narrow : length word ≤ 7
-  pub visible : All (λ b. IsTrue (is_ascii_graphic b)) word
+  pub visible : IsTrue (list_all is_ascii_graphic word)
 
 pub record IsPlaceOf (word : List ℕ) (place : Place) : Type 0 where
   pub is_word : IsPlaceWord word

@@ -1,7 +1,9 @@
 //! What a board is asked for, and what its rows say.
+ghost use Rattle.std.specs.Prelude.{◌≡◌, ◌++◌, OnOk, option_to_list};
 use crate::moment::TimeOfDay;
 use crate::places::Place;
 use cif_columns::{Day, Uid};
+use std::alloc::AllocError;
 
 /// What a board lists.
 #[derive(Clone, Copy, PartialEq, Eq)]
@@ -27,7 +29,7 @@ pub struct Board {
 
 /// What rows are ordered by, which tells them apart.
 #[derive(Clone, Copy, PartialEq, Eq, PartialOrd, Ord)]
-pub(crate) struct BoardKey {
+pub struct BoardKey {
     /// The time of day by the clock.
     pub(crate) time: TimeOfDay,
     pub(crate) uid: Uid,
@@ -39,7 +41,7 @@ pub(crate) struct BoardKey {
 
 /// What a board says of a train, as columns.
 #[derive(Clone, Copy)]
-pub(crate) struct BoardTrain {
+pub struct BoardTrain {
     pub(crate) identity: [u8; 4],
     pub(crate) operator: [u8; 2],
     pub(crate) category: [u8; 2],
@@ -49,10 +51,10 @@ pub(crate) struct BoardTrain {
     pub(crate) destination: [u8; 7],
 }
 
-/// When the train calls at the place where it has to call.
+/// When the train calls at the place where it has to call, or nothing if it needn't.
 #[derive(Clone, Copy)]
-pub(crate) struct CallingAt {
-    pub(crate) location: [u8; 7],
+pub struct CallingAt {
+    pub(crate) location: Option<[u8; 7]>,
     /// The date YYYY-MM-DD, up to the year 9999.
     pub(crate) date: Option<[u8; 10]>,
     /// The time of day by the clock.
@@ -61,10 +63,20 @@ pub(crate) struct CallingAt {
 
 /// A row of a board.
 #[derive(Clone, Copy)]
-pub(crate) struct BoardRow {
+pub struct BoardRow {
     pub(crate) key: BoardKey,
     pub(crate) location: [u8; 7],
     pub(crate) platform: [u8; 3],
     pub(crate) train: BoardTrain,
-    pub(crate) calling_at: Option<CallingAt>,
+    pub(crate) calling_at: CallingAt,
+}
+
+/// Adds the row, if there is one.
+pub(crate) fn add_row(rows: &mut Vec<BoardRow>, row: Option<BoardRow>) -> Result<(), AllocError>
+    ensures { OnOk result (rows.new.items ≡ rows.old.items ++ option_to_list row) }
+{
+    if let Some(row) = row {
+        rows.push(row)?;
+    }
+    Ok(())
 }

@@ -230,12 +230,12 @@ fn push_ends<F: RowFormat, W: WriteDevice>(
 /// Adds when the train is where it has to call.
 fn push_calling_at<F: RowFormat, W: WriteDevice>(
     rows: &mut Rows<F>,
-    calling_at: Option<CallingAt>,
+    calling_at: CallingAt,
     sink: &mut Sink<W>,
 )
     ensures { Adds W.contents W.write_errors (fields_text F.FORMAT (calling_fields calling_at)) sink.old sink.new rows.old rows.new }
 {
-    let Some(calling_at) = calling_at else {
+    let Some(location) = calling_at.location else {
         return;
     };
     rows.push(
@@ -243,7 +243,7 @@ fn push_calling_at<F: RowFormat, W: WriteDevice>(
         "calling_at",
         Padding::Apart,
         Shape::Trimmed,
-        &calling_at.location,
+        &location,
     );
     push_date(rows, calling_at.date, sink);
     rows.push(
@@ -319,13 +319,13 @@ fn push_line<F: RowFormat, W: WriteDevice>(
 /// Adds the hour and the minute at which the train is where it has to call.
 fn push_calling_time<F: RowFormat, W: WriteDevice>(
     rows: &mut Rows<F>,
-    calling_at: Option<CallingAt>,
+    calling_at: CallingAt,
     sink: &mut Sink<W>,
 )
     ensures { Adds W.contents W.write_errors (fields_text F.FORMAT (calling_time calling_at)) sink.old sink.new rows.old rows.new }
 {
-    match calling_at {
-        Some(calling_at) => push_minute(rows, "calling_at_time", calling_at.time, sink),
+    match calling_at.location {
+        Some(_) => push_minute(rows, "calling_at_time", calling_at.time, sink),
         None => {}
     }
 }

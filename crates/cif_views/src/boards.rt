@@ -1,18 +1,18 @@
 //! What leaves from a place on a date, and what arrives there, by the clock.
 ghost use Rattle.std.specs.Prelude.{◌≡◌, ◌≤◌, ◌+◌, ◌-◌, ◌++◌, ℕ, IfErr, IfOk, List, None, OnOk, Some, cond, nat_le, option_map, pos};
-ghost use Rattle.std.specs.List.{list_any};
+ghost use Rattle.std.specs.List.{find, list_any};
 ghost use Rattle.cif_canon.specs.{Normalised.FaultWrites, Normalised.IfWritten, Views.IsDayFault};
 ghost use Rattle.cif_columns.specs.Field.{columns_from};
 ghost use Rattle.jiff.specs.Words.{IsBetween};
 ghost use Rattle.cif_extract.specs.ExtractParts.{extract_parts};
 ghost use Rattle.cif_views.specs.Boards.{IsBoard, board_train, clock_time, date_on, date_text, destination_in};
 ghost use Rattle.cif_views.specs.Boards.{is_shown, origin_in};
-ghost use Rattle.cif_views.specs.Steps.Boards.{AreRowsOf, calling_from, goal_in, is_at, row_if, rows_of};
+ghost use Rattle.cif_views.specs.Steps.Boards.{AreRowsOf, calling_from, goal_in, is_at, is_goal, row_if, rows_from, rows_of};
 
-use crate::board::{Board, BoardKey, BoardKind, BoardRow, BoardTrain, CallingAt};
+use crate::board::{Board, BoardKey, BoardKind, BoardRow, BoardTrain, CallingAt, add_row};
 use crate::board_text::write_rows;
 use crate::columns::extra_among;
-use crate::moment::ClockTime;
+use crate::moment::{ClockTime, TimeOfDay};
 use crate::places::Locations;
 use crate::public_calls::public_stops;
 use crate::public_stop::PublicStop;
@@ -108,11 +108,22 @@ impl Wanted {
         }
         let stops = public_stops(alloc, schedule.further())?;
         let train = train_of(schedule.body(), stops.as_slice());
-        let mut rest = stops.as_slice();
+        self.add_each(rows, schedule, &train, stops.as_slice())
+    }
+
+    /// Adds the rows of public calls, which are all that are left of a train.
+    fn add_each(
+        &self,
+        rows: &mut Vec<BoardRow>,
+        schedule: &CanonSchedule<'_>,
+        train: &BoardTrain,
+        stops: &[PublicStop],
+    ) -> Result<(), AllocError>
+        ensures { OnOk result (rows.new.items ≡ rows.old.items ++ rows_from self.now schedule.now train.now stops.now) }
+    {
+        let mut rest = stops;
         while let [stop, later @ ..] = rest {
-            if let Some(row) = self.row_of(schedule, &train, stop, later) {
-                rows.push(row)?;
-            }
+            add_row(rows, self.row_of(schedule, train, stop, later))?;
             rest = later;
         }
         Ok(())
@@ -152,18 +163,22 @@ impl Wanted {
     }
 
     /// When a train of this date calls where it has to, at one of these calls; `None` if it doesn't call there.
-    fn calling_at(&self, train_date: Day, later: &[PublicStop]) -> Option<Option<CallingAt>>
+    fn calling_at(&self, train_date: Day, later: &[PublicStop]) -> Option<CallingAt>
         ensures { result ≡ calling_from self.now.goal train_date later.now }
     {
         let Some(goal) = &self.goal else {
-            return Some(None);
+            return Some(CallingAt {
+                location: None,
+                date: None,
+                time: TimeOfDay::new(0),
+            });
         };
         let stop = first_goal(goal, later)?;
-        Some(Some(CallingAt {
-            location: stop.location,
+        Some(CallingAt {
+            location: Some(stop.location),
             date: date_after(train_date, stop.arrival.midnights),
             time: stop.arrival.time,
-        }))
+        })
     }
 }
 
@@ -252,11 +267,18 @@ fn first_goal<'a>(goal: &Locations, later: &'a [PublicStop]) -> Option<&'a Publi
     ensures { option_map (λ stop. stop.now) result ≡ goal_in goal.now later.now }
 {
     for stop in later {
-        if stop.gets_off && goal.has(&stop.location) {
+        if is_goal(goal, stop) {
             return Some(stop);
         }
     }
     None
+}
+
+/// Whether riders may get off at this call, at one of the locations.
+fn is_goal(goal: &Locations, stop: &PublicStop) -> bool
+    ensures { result ≡ is_goal goal.now stop.now }
+{
+    stop.gets_off && goal.has(&stop.location)
 }
 
 /// What a board says of a train with this body and these public calls.
@@ -282,30 +304,42 @@ const NO_LOCATION: [u8; 7] = *b"       ";
 fn origin_of(stops: &[PublicStop]) -> [u8; 7]
     ensures { result ≡ origin_in stops.now }
 {
+    match first_open(stops).or(stops.first()) {
+        Some(stop) => stop.location,
+        None => NO_LOCATION,
+    }
+}
+
+/// The first of the calls at which riders may get on.
+fn first_open(stops: &[PublicStop]) -> Option<&PublicStop>
+    ensures { option_map (λ stop. stop.now) result ≡ find (λ s. s.gets_on) stops.now }
+{
     for stop in stops {
         if stop.gets_on {
-            return stop.location;
+            return Some(stop);
         }
     }
-    match stops {
-        [first, ..] => first.location,
-        [] => NO_LOCATION,
-    }
+    None
 }
 
 /// Where riders last get off, or the last of the calls.
 fn destination_of(stops: &[PublicStop]) -> [u8; 7]
     ensures { result ≡ destination_in stops.now }
 {
-    let mut last = NO_LOCATION;
+    let mut last = None;
     let mut last_open = None;
     for stop in stops {
-        last = stop.location;
-        if stop.gets_off {
-            last_open = Some(stop.location);
-        }
+        last = Some(stop.location);
+        last_open = location_if(stop.gets_off, stop.location, last_open);
     }
-    last_open.unwrap_or(last)
+    last_open.or(last).unwrap_or(NO_LOCATION)
+}
+
+/// This location if it passes, or else what was found before.
+fn location_if(passes: bool, location: [u8; 7], found: Option<[u8; 7]>) -> Option<[u8; 7]>
+    ensures { result ≡ cond passes (Some location) found }
+{
+    if passes { Some(location) } else { found }
 }
 
 /// The year of a date from 1960 on.

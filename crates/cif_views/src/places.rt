@@ -1,6 +1,6 @@
 //! Places: words that name locations by their TIPLOC or by their CRS code.
-ghost use Rattle.std.specs.Prelude.{◌≡◌, ◌↔◌, All, AllPairs, IfNone, IfOk, IfSome, IsTrue, map};
-ghost use Rattle.std.specs.{Char.is_ascii_graphic, Char.to_ascii_uppercase, Cmp.Lexicographic.slice_cmp, Ordering.nat_cmp};
+ghost use Rattle.std.specs.Prelude.{◌≡◌, AllPairs, IfNone, IfOk, IfSome, map};
+ghost use Rattle.std.specs.{Char.is_ascii_graphic, Char.to_ascii_uppercase, Cmp.Lexicographic.slice_cmp, List.list_all, Ordering.nat_cmp};
 ghost use Rattle.std.specs.declared.cmp.Ordering.TheVariants.{Less};
 ghost use Rattle.cif_views.specs.{Boards.name_in, Places.IsPlaceOf, Places.IsPlaceWord, Places.crs_of, Places.tiploc_of};
 ghost use Rattle.cif_views.specs.Steps.Boards.{AreLocations, code_is, is_at};
@@ -37,7 +37,7 @@ fn in_capitals(columns: [u8; 7]) -> [u8; 7]
 
 /// Whether all bytes can be seen: 0x21 to 0x7E.
 fn are_visible(word: &[u8]) -> bool
-    ensures { IsTrue result ↔ All (λ b. IsTrue (is_ascii_graphic b)) word.now }
+    ensures { result ≡ list_all is_ascii_graphic word.now }
 {
     for byte in word {
         if !byte.is_ascii_graphic() {

@@ -388,8 +388,30 @@ fn write_step<F: RowFormat, W: WriteDevice>(
     next
 }
 
-/// Adds the line, which is of this kind, if it is a public call. The journey goes on after it, and the number of the
-/// next call is returned.
+/// A public call with this line, as a board shows it.
+fn stop_of(call: usize, line: &Line, public: &PublicCall<'_>) -> PublicStop
+    requires times { public.now.times.now ≡ times_of line.now }
+    requires riders { public.now.riders ≡ riders_of line.now }
+    requires shown { IsToShow public.now.shown }
+    ensures { result ≡ stop_of (record {
+      call = record { schedule = 1; call = call; line = line.now };
+      arrival = public.now.shown.arrival;
+      departure = public.now.shown.departure;
+    }) }
+{
+    let (set_down, pick_up) = answers_of(&public.riders, public.times);
+    PublicStop {
+        call,
+        location: columns_at(line, 3),
+        platform: platform_of(kind_of_line(line), line),
+        arrival: public.shown.arrival.by_the_clock(),
+        departure: public.shown.departure.by_the_clock(),
+        gets_off: set_down != b'1',
+        gets_on: pick_up != b'1',
+    }
+}
+
+/// Adds the line, if it is a public call. The journey goes on after it, and the number of the next call is returned.
 fn add_stop(
     stops: &mut Vec<PublicStop>,
     journey: &mut Journey,
@@ -407,16 +429,12 @@ fn add_stop(
     let kind = kind_of_line(line);
     let times = CallTimes::of(kind, line);
     if let Some((shown, riders)) = journey.step(&times, kind, line) {
-        let (set_down, pick_up) = answers_of(&riders, &times);
-        stops.push(PublicStop {
-            call,
-            location: columns_at(line, 3),
-            platform: platform_of(kind, line),
-            arrival: shown.arrival.by_the_clock(),
-            departure: shown.departure.by_the_clock(),
-            gets_off: set_down != b'1',
-            gets_on: pick_up != b'1',
-        })?;
+        let public = PublicCall {
+            times: &times,
+            riders,
+            shown,
+        };
+        stops.push(stop_of(call, line, &public))?;
     }
     Ok(call_after(call, kind))
 }

@@ -6,7 +6,7 @@ use Rattle.cif_canon.specs.Steps.Views.{applies_on}
 use Rattle.cif_extract.specs.Body.{BodyLines}
 use Rattle.cif_records.specs.declared.tiploc.Tiploc.{Tiploc}
 use Rattle.cif_weeks.specs.Permanent.{Permanent}
-use Rattle.cif_views.specs.Boards.{board_train, clock_time, date_on, is_shown, key_cmp, stop_of}
+use Rattle.cif_views.specs.Boards.{board_train, clock_time, date_on, is_shown, key_cmp, nowhere, stop_of}
 use Rattle.cif_views.specs.Places.{IsNamed, crs_of, tiploc_of}
 use Rattle.cif_views.specs.Steps.PublicCalls.{at_first, public_from}
 use Rattle.cif_views.specs.Tables.{numbered_from}
@@ -33,20 +33,23 @@ abbrev pub stops_in : List (List ℕ) → List PublicStop
 stops_in lines = map stop_of (public_from at_first (numbered_from 1 1 lines))
 
 -- the first of the calls where riders may get off at one of the locations, and when a train of this date is there
+abbrev pub is_goal : List (List ℕ) → PublicStop → Bool
+is_goal named s = s.gets_off && is_at named s.location
+
 abbrev pub goal_in : List (List ℕ) → List PublicStop → Option PublicStop
-goal_in named stops = find (λ s. s.gets_off && is_at named s.location) stops
+goal_in named stops = find (is_goal named) stops
 
 abbrev pub calling_of : ℕ → PublicStop → CallingAt
 calling_of train_date stop =
-    record { location = stop.location; date = date_on (train_date + stop.arrival.midnights); time = stop.arrival.time }
+    record { location = Some stop.location; date = date_on (train_date + stop.arrival.midnights); time = stop.arrival.time }
 
 -- where a train has to call later: none if it needn't
-abbrev pub calling_from : Option (List (List ℕ)) → ℕ → List PublicStop → Option (Option CallingAt)
-calling_from None train_date later = Some None
-calling_from (Some named) train_date later = option_map (λ s. Some (calling_of train_date s)) (goal_in named later)
+abbrev pub calling_from : Option (List (List ℕ)) → ℕ → List PublicStop → Option CallingAt
+calling_from None train_date later = Some nowhere
+calling_from (Some named) train_date later = option_map (calling_of train_date) (goal_in named later)
 
 -- the row of a call
-abbrev pub row_on : Wanted → List ℕ → BoardTrain → PublicStop → ℕ → Option CallingAt → BoardRow
+abbrev pub row_on : Wanted → List ℕ → BoardTrain → PublicStop → ℕ → CallingAt → BoardRow
 row_on wanted uid train stop train_date calling = record {
   key = record { time = (clock_time wanted.kind stop).time; uid = uid; train_date = train_date; call = stop.call };
   location = stop.location;

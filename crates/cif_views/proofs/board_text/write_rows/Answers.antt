@@ -1,23 +1,40 @@
-use Rattle.std.proofs.Common.{rules, ◌≡◌, ◌≤◌, ◌∷◌, [], AllPairs, codes, length, ℕ, ◌+◌, ◌-◌, ◌*◌, ◌<◌, ◌/◌, ◌%◌, Bool, true, false, nat_eq, nat_lt, List, ◌++◌, slice_index_or, slice_set, bit_and, bit_or, Fits, w8, w32, w64, Bor, MutBor}
-use Rattle.std.specs.Cmp.Lexicographic.{slice_cmp}
-use Rattle.std.specs.Ordering.{nat_cmp}
-use Rattle.std.specs.declared.cmp.Ordering.TheVariants.{Less}
-use Rattle.cif_rows.specs.Adds.{Adds}
-use Rattle.cif_rows.specs.Appended.{IsAppended}
-use Rattle.cif_rows.specs.Row.{heading_text, named, text}
-use Rattle.cif_rows.specs.Steps.{fields_text, names_text}
-use Rattle.cif_rows.specs.declared.shape.Shape.TheVariants.{Whole}
-use Rattle.cif_views.specs.Boards.{board_fields, board_names, board_text, call_fields, calling_fields, calling_names, calling_time, date_value, end_fields, end_of, end_text, hour_and_minute, line_fields, table_fields, train_fields}
+-- One row more goes after the others (`one-added`).
+use Rattle.cif_views.proofs.Names.{List, [], append-nil, ap, codes, length, refl, sym, ℕ, ◌<◌, ◌∷◌}
+use Rattle.cif_records.specs.declared.tiploc.Tiploc.{Tiploc}
+use Rattle.cif_views.proofs.RowNames.{Date, Format, Json, Text, Tsv, Whole, added-both, added-is, added-waits, all-added, all-written, fields_text, named}
+use Rattle.cif_views.proofs.RowNames.{one-added, row-added, row_text, some-field}
+use Rattle.cif_views.specs.Boards.{board_fields, hour_and_minute}
+use Rattle.cif_views.specs.declared.{board.Board.Board, board.BoardRow.BoardRow}
+use Rattle.cif_views.proofs.Names.{drop, yymmdd_of}
 use Rattle.cif_views.proofs.board_text.write_rows.Goals as goal
 
--- src/board_text.rt:29:5
+some : (f : Format) (board : Board) (tiplocs : List Tiploc) (row : BoardRow) → 0 < length (fields_text f (board_fields f board tiplocs row))
+some Text board tiplocs row =
+    some-field Text (named (codes "time") (Whole, hour_and_minute row.key.time)) (drop 1 (board_fields Text board tiplocs row)) refl
+some Tsv board tiplocs row =
+    some-field Tsv (named (codes "date") (Date, yymmdd_of board.day)) (drop 1 (board_fields Tsv board tiplocs row)) refl
+some Json board tiplocs row =
+    some-field Json (named (codes "date") (Date, yymmdd_of board.day)) (drop 1 (board_fields Json board tiplocs row)) refl
+
 pub loop-row-init : goal.loop-row-init
-loop-row-init g c = ?
+loop-row-init g c = added-waits _ _ [] _ _ _ (sym (append-nil _))
 
--- src/board_text.rt:29:5
 pub loop-row-preserved : goal.loop-row-preserved
-loop-row-preserved g c = ?
+loop-row-preserved g c =
+    let f = g.F.RowFormat.FORMAT in
+    let board = c.args.board.now in
+    let tiplocs = c.args.tiplocs.now in
+    let row = c.row-item.result in
+    one-added _ _ (λ r. row_text f (board_fields f board tiplocs r)) c.args.board_rows.now c.loop-row.row-index _ _ _ _
+    c.loop-row.invariant row _ _ c.loop-row-test.true
+    (added-is _ _ _ _ _ _ _ _ (ap (λ r. row_text f (board_fields f board tiplocs r)) c.row-item.is)
+    (row-added _ _ f (board_fields f board tiplocs row) _ _ _ _ _ _ _ _ (some f board tiplocs row) c.begin_row.ensures c.push_row.ensures
+    c.end_row.ensures))
 
--- src/board_text.rt:18:1
 pub returns : goal.returns
-returns g c = ?
+returns g c =
+    let f = g.F.RowFormat.FORMAT in
+    all-written _ _ _ _ _ _ _ _ c.new-rows.ensures
+    (added-both _ _ _ _ _ _ _ _ _ _ c.push_names.ensures
+    (all-added _ _ (λ r. row_text f (board_fields f c.args.board.now c.args.tiplocs.now r)) c.args.board_rows.now c.loop-row.row-index _ _ _ _
+    c.loop-row.invariant c.loop-row-test.false)) c.finish.ensures

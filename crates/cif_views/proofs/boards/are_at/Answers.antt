@@ -1,30 +1,43 @@
-use Rattle.std.proofs.Common.{rules, ◌≡◌, ◌≤◌, ◌+◌, ◌-◌, ◌++◌, ℕ, IfErr, IfOk, List, None, OnOk, Some, cond, nat_le, option_map, pos, ◌*◌, ◌<◌, length, ◌/◌, ◌%◌, Bool, true, false, nat_eq, nat_lt, [], ◌∷◌, slice_index_or, slice_set, bit_and, bit_or, Fits, w8, w32, w64, Bor, MutBor}
+-- The first line is at one of the locations, or else the others decide (`first-and-rest`).
+use Rattle.cif_views.proofs.Names.{Bool, List, [], ap, arith, drop, length, length-drop, refl, sym, ℕ, ◌∙◌, ◌||◌, ◌∷◌, ◌≡◌}
 use Rattle.std.specs.List.{list_any}
-use Rattle.cif_canon.specs.Normalised.{FaultWrites, IfWritten}
-use Rattle.cif_canon.specs.Views.{IsDayFault}
 use Rattle.cif_columns.specs.Field.{columns_from}
-use Rattle.jiff.specs.Words.{IsBetween}
-use Rattle.cif_extract.specs.ExtractParts.{extract_parts}
-use Rattle.cif_views.specs.Boards.{IsBoard, board_train, clock_time, date_on, date_text, destination_in, is_shown, origin_in}
-use Rattle.cif_views.specs.Steps.Boards.{AreRowsOf, calling_from, goal_in, is_at, row_if, rows_of}
+use Rattle.cif_views.proofs.TableRows.{first-and-rest, no-lines, some-lines}
+use Rattle.cif_views.specs.Steps.Boards.{is_at}
 use Rattle.cif_views.proofs.boards.are_at.Goals as goal
 
--- src/boards.rt:197:5
+abbrev at : List (List ℕ) → List ℕ → Bool
+at place line = is_at place (columns_from 3 7 line)
+
+none-at : (place lines : List (List ℕ)) → length lines ≡ 0 → list_any (at place) lines ≡ list_any (at place) []
+none-at place [] none = refl
+none-at place (l ∷ lines) none = absurd (omega (arith, none))
+
 pub loop-lines-init : goal.loop-lines-init
-loop-lines-init c = ?
+loop-lines-init c = refl
 
--- src/boards.rt:199:13
 pub returns-then-has : goal.returns-then-has
-returns-then-has c = ?
+returns-then-has c =
+    let place = c.args.place.now in
+    let some = some-lines c.loop-lines.lines _ c.is_empty.ensures c.loop-lines-test.true in
+    let is = first-and-rest c.loop-lines.lines c.first.result _ some c.first.ensures refl in
+    let here = sym c.if-has.true ∙ c.has.ensures ∙ ap (is_at place) c.columns_at.ensures.value in
+    ap (λ (b : Bool). b || list_any (at place) (drop 1 c.loop-lines.lines)) here ∙ sym (ap (list_any (at place)) is) ∙ c.loop-lines.invariant
 
--- src/boards.rt:197:5
 pub loop-lines-smaller : goal.loop-lines-smaller
-loop-lines-smaller c = ?
+loop-lines-smaller c =
+    let some = some-lines c.loop-lines.lines _ c.is_empty.ensures c.loop-lines-test.true in
+    let behind = ap length c.rest-lines.ensures ∙ length-drop 1 c.loop-lines.lines in omega (arith, some, behind)
 
--- src/boards.rt:197:5
 pub loop-lines-preserved : goal.loop-lines-preserved
-loop-lines-preserved c = ?
+loop-lines-preserved c =
+    let place = c.args.place.now in
+    let some = some-lines c.loop-lines.lines _ c.is_empty.ensures c.loop-lines-test.true in
+    let is = first-and-rest c.loop-lines.lines c.first.result c.rest-lines.result some c.first.ensures c.rest-lines.ensures in
+    let here = sym c.if-has.false ∙ c.has.ensures ∙ ap (is_at place) c.columns_at.ensures.value in
+    ap (λ (b : Bool). b || list_any (at place) c.rest-lines.result) here ∙ sym (ap (list_any (at place)) is) ∙ c.loop-lines.invariant
 
--- src/boards.rt:193:1
 pub returns : goal.returns
-returns c = ?
+returns c =
+    let none = no-lines c.loop-lines.lines _ c.is_empty.ensures c.loop-lines-test.false in
+    sym (none-at c.args.place.now c.loop-lines.lines none) ∙ c.loop-lines.invariant

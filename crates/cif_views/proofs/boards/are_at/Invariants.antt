@@ -1,16 +1,13 @@
-use Rattle.std.proofs.Common.{◌≡◌, ◌≤◌, ◌+◌, ◌-◌, ◌++◌, ℕ, IfErr, IfOk, List, None, OnOk, Some, cond, nat_le, option_map, pos, ◌*◌, ◌<◌, length}
+-- What is left is at one of the locations exactly if all lines are.
+use Rattle.cif_views.proofs.Names.{length, ◌≡◌}
 use Rattle.std.specs.List.{list_any}
-use Rattle.cif_canon.specs.Normalised.{FaultWrites, IfWritten}
-use Rattle.cif_canon.specs.Views.{IsDayFault}
 use Rattle.cif_columns.specs.Field.{columns_from}
-use Rattle.jiff.specs.Words.{IsBetween}
-use Rattle.cif_extract.specs.ExtractParts.{extract_parts}
-use Rattle.cif_views.specs.Boards.{IsBoard, board_train, clock_time, date_on, date_text, destination_in, is_shown, origin_in}
-use Rattle.cif_views.specs.Steps.Boards.{AreRowsOf, calling_from, goal_in, is_at, row_if, rows_of}
+use Rattle.cif_views.specs.Steps.Boards.{is_at}
 use Rattle.cif_views.proofs.boards.are_at.Given as goal
 
 abbrev pub invariant-loop-lines : goal.invariant-loop-lines
-invariant-loop-lines l = ?
+invariant-loop-lines l =
+    list_any (λ line. is_at l.place (columns_from 3 7 line)) l.lines ≡ list_any (λ line. is_at l.place (columns_from 3 7 line)) l.initial.lines
 
 abbrev pub decreases-loop-lines : goal.decreases-loop-lines
-decreases-loop-lines l = ?
+decreases-loop-lines l = length l.lines

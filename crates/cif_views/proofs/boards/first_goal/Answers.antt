@@ -1,26 +1,32 @@
-use Rattle.std.proofs.Common.{rules, ◌≡◌, ◌≤◌, ◌+◌, ◌-◌, ◌++◌, ℕ, IfErr, IfOk, List, None, OnOk, Some, cond, nat_le, option_map, pos, ◌*◌, ◌<◌, length, ◌/◌, ◌%◌, Bool, true, false, nat_eq, nat_lt, [], ◌∷◌, slice_index_or, slice_set, bit_and, bit_or, Fits, w8, w32, w64, Bor, MutBor}
-use Rattle.std.specs.List.{list_any}
-use Rattle.cif_canon.specs.Normalised.{FaultWrites, IfWritten}
-use Rattle.cif_canon.specs.Views.{IsDayFault}
-use Rattle.cif_columns.specs.Field.{columns_from}
-use Rattle.jiff.specs.Words.{IsBetween}
-use Rattle.cif_extract.specs.ExtractParts.{extract_parts}
-use Rattle.cif_views.specs.Boards.{IsBoard, board_train, clock_time, date_on, date_text, destination_in, is_shown, origin_in}
-use Rattle.cif_views.specs.Steps.Boards.{AreRowsOf, calling_from, goal_in, is_at, row_if, rows_of}
+-- A call that passes is the first; one that fails is passed over.
+use Rattle.cif_views.proofs.Names.{Bool, None, Option, Some, ap, at_drop_all, drop, find, if◌then◌else◌, refl, sym, ◌+◌, ◌∙◌}
+use Rattle.std.proofs.lemmas.List.{at_drop_more}
+use Rattle.cif_views.specs.Steps.Boards.{is_goal}
+use Rattle.cif_views.specs.declared.public_stop.PublicStop.{PublicStop}
 use Rattle.cif_views.proofs.boards.first_goal.Goals as goal
 
--- src/boards.rt:254:5
 pub loop-stop-init : goal.loop-stop-init
-loop-stop-init c = ?
+loop-stop-init c = refl
 
--- src/boards.rt:256:13
-pub returns-then-has : goal.returns-then-has
-returns-then-has c = ?
+pub returns-then-is_goal : goal.returns-then-is_goal
+returns-then-is_goal c =
+    let stop = c.stop-item.result in
+    let i = c.loop-stop.stop-index in
+    let rest = find (is_goal c.args.goal.now) (drop (i + 1) c.args.later.now) in
+    sym (ap (λ (b : Bool). if b then Some stop else rest) (sym c.is_goal.ensures ∙ c.if-is_goal.true))
+    ∙ ap (λ (s : PublicStop). if (is_goal c.args.goal.now) s then Some s else rest) c.stop-item.is
+    ∙ sym (at_drop_more (find (is_goal c.args.goal.now)) c.args.later.now i stop c.loop-stop-test.true)
+    ∙ c.loop-stop.invariant
 
--- src/boards.rt:254:5
 pub loop-stop-preserved : goal.loop-stop-preserved
-loop-stop-preserved c = ?
+loop-stop-preserved c =
+    let stop = c.stop-item.result in
+    let i = c.loop-stop.stop-index in
+    let rest = find (is_goal c.args.goal.now) (drop (i + 1) c.args.later.now) in
+    sym (ap (λ (b : Bool). if b then Some stop else rest) (sym c.is_goal.ensures ∙ c.if-is_goal.false))
+    ∙ ap (λ (s : PublicStop). if (is_goal c.args.goal.now) s then Some s else rest) c.stop-item.is
+    ∙ sym (at_drop_more (find (is_goal c.args.goal.now)) c.args.later.now i stop c.loop-stop-test.true)
+    ∙ c.loop-stop.invariant
 
--- src/boards.rt:251:1
 pub returns : goal.returns
-returns c = ?
+returns c = sym (at_drop_all (find (is_goal c.args.goal.now)) c.args.later.now c.loop-stop.stop-index c.loop-stop-test.false) ∙ c.loop-stop.invariant

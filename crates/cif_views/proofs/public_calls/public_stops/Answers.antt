@@ -1,39 +1,50 @@
-use Rattle.std.proofs.Common.{rules, ◌≡◌, ◌<◌, ◌≤◌, ◌+◌, ◌^◌, ◌++◌, ◌∷◌, [], ℕ, IfOk, IfSome, List, OnOk, codes, cond, length, map, ◌-◌, ◌*◌, ◌/◌, ◌%◌, Bool, true, false, nat_eq, nat_lt, slice_index_or, slice_set, bit_and, bit_or, Fits, w8, w32, w64, Bor, MutBor}
-use Rattle.cif_columns.specs.Activities.{codes_in}
-use Rattle.cif_columns.specs.Field.{columns_from}
-use Rattle.std.specs.List.{flat_map}
-use Rattle.cif_rows.specs.Adds.{Adds}
-use Rattle.cif_rows.specs.Appended.{IsAppended}
-use Rattle.cif_rows.specs.Row.{all_named, named, row_text}
-use Rattle.cif_rows.specs.Steps.{field_text, fields_text}
-use Rattle.cif_views.specs.Boards.{stop_of}
-use Rattle.cif_views.specs.Moments.{IsBy, IsOnTheWay}
-use Rattle.cif_views.specs.PublicCalls.{advertised, answer_of, pick_up, platform_in, public_fields, riders_in, riders_of, said_by, set_down, times_in, times_of, working}
-use Rattle.cif_views.specs.Steps.PublicCalls.{at_first, public_call, public_from, reached_moment, shown_at, stay, step, step_at}
-use Rattle.cif_views.specs.Steps.PublicRows.{IsJourneyBy, IsStayBy, IsToShow, joined, public_values, row_of_step, shown_in}
-use Rattle.cif_views.specs.Tables.{is_call, kind_of_line, names, numbered_from, row_of}
+-- One line more (`one-stop`), until none is left (`no-stop`).
+use Rattle.cif_views.proofs.Names.{None, ap, arith, is_call, kind_of_line, length, length-drop, midnight, sym, ◌++◌, ◌+◌, ◌∙◌, ◌≡◌}
+use Rattle.cif_views.proofs.{Stops.no-stop, Stops.one-stop, Stops.stops_left}
+use Rattle.cif_views.proofs.TableRows.{first-and-rest, next-call, no-lines, some-lines}
 use Rattle.cif_views.proofs.public_calls.public_stops.Goals as goal
 
--- src/public_calls.rt:439:5
 pub loop-lines-init : goal.loop-lines-init
-loop-lines-init c = ?
+loop-lines-init c =
+    let is : c.on_date.result ≡ midnight = c.on_date.ensures ∙ ap (λ n. midnight + n) c.new.ensures in (
+      ap (λ l. l ++ stops_left (record { left = None; shown = c.on_date.result }) 1 c.args.lines) c.new-stops.ensures.items
+          ∙ ap (λ m. stops_left (record { left = None; shown = m }) 1 c.args.lines) is,
+      (0, record { left = tt; late = omega (arith, is); early = omega (arith, is) }, omega arith),
+      omega arith,
+      c.are_few.ensures,
+    )
 
--- src/public_calls.rt:440:16
 pub add_stop-requires-clause-by : goal.add_stop-requires-clause-by
-add_stop-requires-clause-by c = ?
+add_stop-requires-clause-by c =
+    let (_, (n, by, upto), _, few) = c.loop-lines.invariant in (n, omega (arith, upto, few), by)
 
--- src/public_calls.rt:440:16
 pub add_stop-requires-clause-call : goal.add_stop-requires-clause-call
-add_stop-requires-clause-call c = ?
+add_stop-requires-clause-call c =
+    let (_, _, calls, few) = c.loop-lines.invariant in
+    let some = some-lines c.loop-lines.lines _ c.is_empty.ensures c.loop-lines-test.true in omega (arith, calls, few, some)
 
--- src/public_calls.rt:439:5
 pub loop-lines-smaller : goal.loop-lines-smaller
-loop-lines-smaller c = ?
+loop-lines-smaller c =
+    let some = some-lines c.loop-lines.lines _ c.is_empty.ensures c.loop-lines-test.true in
+    let behind = ap length c.rest-lines.ensures ∙ length-drop 1 c.loop-lines.lines in omega (arith, some, behind)
 
--- src/public_calls.rt:439:5
 pub loop-lines-preserved : goal.loop-lines-preserved
-loop-lines-preserved c = ?
+loop-lines-preserved c =
+    let (left, (n, by, upto), calls, few) = c.loop-lines.invariant in
+    let lines = c.loop-lines.lines in
+    let line = c.first.result in
+    let some = some-lines lines _ c.is_empty.ensures c.loop-lines-test.true in
+    let is = first-and-rest lines line c.rest-lines.result some c.first.ensures c.rest-lines.ensures in
+    let long = ap length is in
+    let next = c.in_ok-call.ensures.next in (
+      one-stop _ _ _ c.loop-lines.journey _ c.loop-lines.call _ lines line _ is c.in_ok-call.ensures.stops c.add_stop.ensures.journey next left,
+      (n + 2, c.add_stop.ensures.by n by, omega (arith, long, upto)),
+      next-call (is_call (kind_of_line line)) c.loop-lines.call _ _ lines _ line is next calls,
+      few,
+    )
 
--- src/public_calls.rt:425:1
 pub returns : goal.returns
-returns c = ?
+returns c =
+    let (left, _, _, _) = c.loop-lines.invariant in
+    let none = no-lines c.loop-lines.lines _ c.is_empty.ensures c.loop-lines-test.false in
+    no-stop _ _ c.loop-lines.journey c.loop-lines.call c.loop-lines.lines none left

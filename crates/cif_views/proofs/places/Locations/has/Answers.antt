@@ -1,13 +1,12 @@
-use Rattle.std.proofs.Common.{rules, ◌≡◌, ◌↔◌, All, AllPairs, IfNone, IfOk, IfSome, IsTrue, map, ℕ, ◌+◌, ◌-◌, ◌*◌, ◌<◌, ◌≤◌, length, ◌/◌, ◌%◌, Bool, true, false, nat_eq, nat_lt, List, [], ◌∷◌, ◌++◌, slice_index_or, slice_set, bit_and, bit_or, Fits, w8, w32, w64, Bor, MutBor}
-use Rattle.std.specs.Char.{is_ascii_graphic, to_ascii_uppercase}
-use Rattle.std.specs.Cmp.Lexicographic.{slice_cmp}
-use Rattle.std.specs.Ordering.{nat_cmp}
-use Rattle.std.specs.declared.cmp.Ordering.TheVariants.{Less}
-use Rattle.cif_views.specs.Boards.{name_in}
-use Rattle.cif_views.specs.Places.{IsPlaceOf, IsPlaceWord, crs_of, tiploc_of}
-use Rattle.cif_views.specs.Steps.Boards.{AreLocations, code_is, is_at}
+-- In a list that is sorted the search finds a location exactly if it is there (`searched`).
+use Rattle.cif_views.proofs.Names.{List, ap, ℕ, ◌∙◌}
+use Rattle.cif_views.proofs.Searched.{searched}
+use Rattle.cif_views.specs.Steps.Boards.{is_at}
 use Rattle.cif_views.proofs.places.Locations.has.Goals as goal
 
--- src/places.rt:126:5
 pub returns : goal.returns
-returns c = ?
+returns c =
+    c.is_ok.ensures.value
+    ∙ searched c.as_slice.result.now c.args.location.now c.binary_search.result c.binary_search.ensures.bound c.binary_search.ensures.position
+    (rw c.as_slice.ensures.value c.self.invariant)
+    ∙ ap (λ (l : List (List ℕ)). is_at l c.args.location.now) (c.as_slice.ensures.value ∙ c.self.view_is)
