@@ -1,4 +1,5 @@
 mod AllFields
+pub mod BoardRows
 pub mod BoardTexts
 pub mod CallRows
 pub mod ClashLists

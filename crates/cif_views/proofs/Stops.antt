@@ -3,13 +3,15 @@ use Rattle.cif_views.proofs.Names.{IsJourneyBy, Journey, JourneyKind, List, Numb
 use Rattle.cif_views.proofs.Names.{is_call, kind_of_line, length, map, map-append, numbered_from, public_call, public_from, refl, step_at, sym, ℕ}
 use Rattle.cif_views.proofs.Names.{◌++◌, ◌+◌, ◌∙◌, ◌∷◌, ◌≡◌}
 use Rattle.cif_views.proofs.Names.{All, All-append, All-cons, All-head, All-nil, All-tail, BodyLines, Bool, None, Permanent, Some, and-false, at_first}
+use Rattle.std.proofs.Common.{take_all}
+use Rattle.cif_views.proofs.Names.{get_or, take, ◌<◌, ◌≤◌}
 use Rattle.cif_views.proofs.Names.{drop, false, if◌then◌else◌, nat_le, subst, ◌&&◌, ◌-◌, ◌||◌}
 use Rattle.std.proofs.lemmas.Bool.{or_parts}
 use Rattle.std.specs.{List.list_any, Prelude.option_to_list}
 use Rattle.cif_columns.specs.Field.{columns_from}
 use Rattle.cif_views.specs.{Boards.board_train, Boards.clock_time, Boards.is_shown, Boards.stop_of}
 use Rattle.cif_views.specs.Steps.Boards.{is_at, row_if, row_of_date, rows_from, rows_of, stops_in}
-use Rattle.cif_views.specs.declared.{board.BoardTrain.BoardTrain, boards.Wanted.Wanted, public_stop.PublicStop.PublicStop}
+use Rattle.cif_views.specs.declared.{board.BoardRow.BoardRow, board.BoardTrain.BoardTrain, boards.Wanted.Wanted, public_stop.PublicStop.PublicStop}
 
 abbrev pub stops_left : Journey → ℕ → List (List ℕ) → List PublicStop
 stops_left j call lines = map stop_of (public_from j (numbered_from 1 call lines))
@@ -89,3 +91,24 @@ module _ (wanted : Wanted) where
   no-rows e none =
       let stops = stops_in (drop 1 e.1.body) in
       rows-none e (board_train e.1.body stops) stops (stops-elsewhere at_first 1 (drop 1 e.1.body) none)
+
+-- ---- one row more
+
+module _ (wanted : Wanted) (e : List ℕ × Permanent BodyLines) (train : BoardTrain) where
+  pub next-rows : (rest : List PublicStop) (stop : PublicStop) (row : Option BoardRow) (done more whole : List BoardRow) → 1 ≤ length rest →
+      stop ≡ get_or rest 0 stop → row ≡ row_if wanted e train stop (take (length rest - 1) (drop 1 rest)) →
+      more ≡ done ++ option_to_list row → done ++ rows_from wanted e train rest ≡ whole →
+      more ++ rows_from wanted e train (take (length rest - 1) (drop 1 rest)) ≡ whole
+  next-rows [] stop row done more whole some is row_is more_is all = absurd (omega (arith, some))
+  next-rows (s ∷ later) stop row done more whole some is row_is more_is all =
+      let others : take (length (s ∷ later) - 1) later ≡ later = take_all (length (s ∷ later) - 1) later (omega arith) in
+      let own = row_is ∙ ap (row_if wanted e train stop) others ∙ ap (λ u. row_if wanted e train u later) is in
+      ap (λ (l : List PublicStop). more ++ rows_from wanted e train l) others
+      ∙ ap (λ (l : List BoardRow). l ++ rows_from wanted e train later) (more_is ∙ ap (λ o. done ++ option_to_list o) own)
+      ∙ append_assoc done (option_to_list (row_if wanted e train s later)) (rows_from wanted e train later)
+      ∙ all
+
+  pub last-rows : (rest : List PublicStop) (done whole : List BoardRow) → length rest < 1 → done ++ rows_from wanted e train rest ≡ whole →
+      done ≡ whole
+  last-rows [] done whole none all = sym (append-nil done) ∙ all
+  last-rows (stop ∷ later) done whole none all = absurd (omega (arith, none))
