@@ -4,6 +4,10 @@ use Rattle.cif_views.proofs.Names.{is_call, kind_of_line, length, map, map-appen
 use Rattle.cif_views.proofs.Names.{◌++◌, ◌+◌, ◌∙◌, ◌∷◌, ◌≡◌}
 use Rattle.cif_views.proofs.Names.{All, All-append, All-cons, All-head, All-nil, All-tail, BodyLines, Bool, None, Permanent, Some, and-false, at_first}
 use Rattle.std.proofs.Common.{take_all}
+use Rattle.cif_views.proofs.Names.{All-weaker, Change, Other, Stop, false≢true, is_some, times_in, true}
+use Rattle.cif_views.specs.{PublicCalls.riders_in, declared.columns.JourneyKind.TheVariants.Origin}
+use Rattle.cif_views.specs.declared.columns.JourneyKind.TheVariants.{Terminus}
+use Rattle.cif_views.specs.Steps.PublicCalls.{step}
 use Rattle.cif_views.proofs.Names.{get_or, take, ◌<◌, ◌≤◌}
 use Rattle.cif_views.proofs.Names.{drop, false, if◌then◌else◌, nat_le, subst, ◌&&◌, ◌-◌, ◌||◌}
 use Rattle.std.proofs.lemmas.Bool.{or_parts}
@@ -112,3 +116,63 @@ module _ (wanted : Wanted) (e : List ℕ × Permanent BodyLines) (train : BoardT
       done ≡ whole
   last-rows [] done whole none all = sym (append-nil done) ∙ all
   last-rows (stop ∷ later) done whole none all = absurd (omega (arith, none))
+
+-- ---- the numbers of calls rise
+
+abbrev pub Rise : List PublicStop → Type 0
+Rise [] = Unit {0}
+Rise (s ∷ stops) = All (λ t. s.call < t.call) stops × Rise stops
+
+number-after : (call : ℕ) (b : Bool) → call ≤ cond b (call + 1) call
+number-after call true = omega arith
+number-after call false = omega arith
+
+own-number : (call : ℕ) (line : List ℕ) (shown : Option Shown) → All (λ s. call ≤ s.call) (stop_at call line shown)
+own-number call line None = All-nil (λ s. call ≤ s.call)
+own-number call line (Some shown) =
+    All-cons (λ s. call ≤ s.call) (stop_of (record { call = record { schedule = 1; call = call; line = line }; arrival = shown.arrival; departure = shown.departure })) []
+    (omega arith) (All-nil (λ s. call ≤ s.call))
+
+-- the calls of lines have numbers from the first on
+from-number : (j : Journey) (call : ℕ) (lines : List (List ℕ)) → All (λ s. call ≤ s.call) (stops_left j call lines)
+from-number j call [] = All-nil (λ s. call ≤ s.call)
+from-number j call (line ∷ lines) =
+    let shown = step_at j line in
+    let after_call = cond (is_call (kind_of_line line)) (call + 1) call in
+    let one : Numbered = record { schedule = 1; call = call; line = line } in
+    let upto = number-after call (is_call (kind_of_line line)) in
+    subst (All (λ s. call ≤ s.call)) (sym (map-append stop_of (public_call one shown.1) (public_from shown.0 (numbered_from 1 after_call lines))))
+    (All-append (λ s. call ≤ s.call) (stop_at call line shown.1) (stops_left shown.0 after_call lines) (own-number call line shown.1)
+    (All-weaker (λ s. after_call ≤ s.call) (λ s. call ≤ s.call) (λ s from. omega (arith, from, upto)) (stops_left shown.0 after_call lines)
+    (from-number shown.0 after_call lines)))
+
+-- what is public is a call
+public-call : (k : JourneyKind) (j : Journey) (line : List ℕ) (shown : Shown) → (step j (times_in k line) (riders_in k line)).1 ≡ Some shown →
+    is_call k ≡ true
+public-call Origin j line shown is = refl
+public-call Stop j line shown is = refl
+public-call Terminus j line shown is = refl
+public-call Change j line shown is = absurd (false≢true (ap is_some is))
+public-call Other j line shown is = absurd (false≢true (ap is_some is))
+
+rise-after : (j : Journey) (call : ℕ) (line : List ℕ) (lines : List (List ℕ)) (shown : Option Shown) → (step_at j line).1 ≡ shown →
+    Rise (stops_left (step_at j line).0 (cond (is_call (kind_of_line line)) (call + 1) call) lines) →
+    Rise (stop_at call line shown ++ stops_left (step_at j line).0 (cond (is_call (kind_of_line line)) (call + 1) call) lines)
+rise-after j call line lines None is rise = rise
+rise-after j call line lines (Some shown) is rise =
+    let next = (step_at j line).0 in
+    let after_call = cond (is_call (kind_of_line line)) (call + 1) call in
+    let after : after_call ≡ call + 1 = ap (λ b. cond b (call + 1) call) (public-call (kind_of_line line) j line shown is) in (
+      All-weaker (λ s. after_call ≤ s.call) (λ s. call < s.call) (λ s from. omega (arith, from, after)) (stops_left next after_call lines)
+          (from-number next after_call lines),
+      rise,
+    )
+
+pub calls-rise : (j : Journey) (call : ℕ) (lines : List (List ℕ)) → Rise (stops_left j call lines)
+calls-rise j call [] = tt
+calls-rise j call (line ∷ lines) =
+    let shown = step_at j line in
+    let after_call = cond (is_call (kind_of_line line)) (call + 1) call in
+    let one : Numbered = record { schedule = 1; call = call; line = line } in
+    subst Rise (sym (map-append stop_of (public_call one shown.1) (public_from shown.0 (numbered_from 1 after_call lines))))
+    (rise-after j call line lines shown.1 refl (calls-rise shown.0 after_call lines))

@@ -15,7 +15,8 @@ use Rattle.cif_rows.specs.declared.format.{Format.Format, Format.TheVariants.Tex
 use Rattle.cif_rows.specs.declared.shape.Shape.TheVariants.{Date, Whole}
 use Rattle.cif_views.specs.{ClockTimes.by_the_clock, Moments.time_text, declared.moment.ClockTime.ClockTime}
 use Rattle.cif_views.specs.Places.{IsNamed, name_of, tiploc_of}
-use Rattle.cif_views.specs.PublicCalls.{ArePublicCalls, PublicCall, pick_up, platform_in, riders_of, set_down, times_of}
+use Rattle.cif_views.specs.Steps.PublicCalls.{public_calls}
+use Rattle.cif_views.specs.PublicCalls.{PublicCall, pick_up, platform_in, riders_of, set_down, times_of}
 use Rattle.cif_views.specs.Tables.{extra_in, kind_of_line}
 use Rattle.cif_views.specs.declared.board.{Board.Board, BoardKey.BoardKey, BoardKind.BoardKind, BoardRow.BoardRow, BoardTrain.BoardTrain, CallingAt.CallingAt}
 use Rattle.cif_views.specs.declared.places.Place.{Place}
@@ -40,11 +41,9 @@ stop_of p = record {
   gets_on = may (pick_up (riders_of p.call.line) (times_of p.call.line));
 }
 
--- these are the public calls of a body, in their order
-pub record ArePublicStops (body : BodyLines) (stops : List PublicStop) : Type 0 where
-  pub calls : List PublicCall
-  pub public : ArePublicCalls (1, record { basic = slice_index_or body 0 []; further = drop 1 body }) calls
-  pub are : map stop_of calls ≡ stops
+-- the public calls of a body, in their order: those that the table of public calls shows of it
+abbrev pub public_stops : BodyLines → List PublicStop
+public_stops body = map stop_of (public_calls (1, record { basic = slice_index_or body 0 []; further = drop 1 body }))
 
 -- For riders a train comes from the first call where they may get on, or where there is none from the first; it goes to the last where
 -- they may get off, or else to the last.
@@ -125,7 +124,7 @@ pub record IsBoardRow (x : ExtractParts) (board : Board) (row : BoardRow) : Type
   pub earlier : List PublicStop
   pub stop : PublicStop
   pub later : List PublicStop
-  pub public : ArePublicStops body (earlier ++ (stop ∷ later))
+  pub calls : public_stops body ≡ earlier ++ (stop ∷ later)
   pub at : IsNamed x.tiplocs board.place stop.location
   pub riders : IsTrue (is_shown board.kind stop)
   pub on_date : row.key.train_date + (clock_time board.kind stop).midnights ≡ board.day
@@ -133,7 +132,7 @@ pub record IsBoardRow (x : ExtractParts) (board : Board) (row : BoardRow) : Type
   pub call : row.key.call ≡ stop.call
   pub location : row.location ≡ stop.location
   pub platform : row.platform ≡ stop.platform
-  pub train : row.train ≡ board_train body (earlier ++ (stop ∷ later))
+  pub train : row.train ≡ board_train body (public_stops body)
   pub calling_at : IsCallingAt x board.calling_at row.key.train_date later row.calling_at
 
 -- Rows are ordered by the time of day, then the UID, the train date and the call.

@@ -91,15 +91,14 @@ AreGoals tiplocs None None = Unit {0}
 AreGoals tiplocs (Some goal) (Some named) = AreLocations tiplocs goal named
 AreGoals tiplocs goal named = ⊥
 
-pub record IsWantedOf (tiplocs : List Tiploc) (board : Board) (wanted : Wanted) : Type 0 where
-  pub kind : wanted.kind ≡ board.kind
-  pub day : wanted.day ≡ board.day
-  pub place : AreLocations tiplocs board.place wanted.place
-  pub goal : AreGoals tiplocs board.calling_at wanted.goal
+abbrev pub wanted_of : Board → List (List ℕ) → Option (List (List ℕ)) → Wanted
+wanted_of board place goal = record { kind = board.kind; day = board.day; place = place; goal = goal }
 
 pub record AreRowsOf (tiplocs : List Tiploc) (board : Board) (schedules : List (List ℕ × Permanent BodyLines)) (rows : List BoardRow)
     : Type 0 where
-  pub wanted : Wanted
-  pub is_wanted : IsWantedOf tiplocs board wanted
-  pub permuted : IsPermutation (flat_map (rows_of wanted) schedules) rows
+  pub place : List (List ℕ)
+  pub are_place : AreLocations tiplocs board.place place
+  pub goal : Option (List (List ℕ))
+  pub are_goal : AreGoals tiplocs board.calling_at goal
+  pub permuted : IsPermutation (flat_map (rows_of (wanted_of board place goal)) schedules) rows
   pub sorted : IsSorted (λ r s. key_cmp r.key s.key) rows

@@ -1,7 +1,7 @@
 -- One schedule more (`flat-more`), and at the end the rows are put in order.
 use Rattle.std.proofs.Common.{take_all}
 use Rattle.std.proofs.lemmas.List.Sorted.{answers_always}
-use Rattle.cif_views.proofs.Names.{IsPermutation, List, None, Some, ap, arith, flat_map, refl, rules, subst, sym, ◌∙◌}
+use Rattle.cif_views.proofs.Names.{IsPermutation, List, None, Some, ap, arith, flat_map, rules, subst, sym, ◌∙◌}
 use Rattle.cif_views.proofs.BoardRows.{flat-more}
 use Rattle.cif_views.specs.Steps.Boards.{AreGoals, rows_of}
 use Rattle.cif_views.specs.declared.board.BoardRow.{BoardRow}
@@ -45,8 +45,10 @@ returns c =
           subst (AreGoals tiplocs calling_at) (sym w.goal-is) (subst (λ o. AreGoals tiplocs o None) (sym w.in-None.is) (tt {0}))
     ] in
     record {
-      wanted = wanted;
-      is_wanted = record { kind = refl; day = refl; place = c.in_ok-place.ensures; goal = goals };
+      place = c.in_ok-place.place;
+      are_place = c.in_ok-place.ensures;
+      goal = c.match-board.goal;
+      are_goal = goals;
       permuted = subst (λ (l : List BoardRow). IsPermutation l c.sort_unstable_by_key.new.self.items) all c.sort_unstable_by_key.ensures.permutation;
       sorted = c.sort_unstable_by_key.ensures.sorted (λ (r : BoardRow). r.key)
           (answers_always _ _ _ (λ f a r f' called. search rules));
