@@ -72,12 +72,12 @@ module _ (wanted : Wanted) (e : List ℕ × Permanent BodyLines) (train : BoardT
       elim (Contains-append_cases (option_to_list (row_if wanted e train stop later)) (rows_from wanted e train later) row h) [
         | inl here ↦ record { earlier = []; stop = stop; later = later; split = refl; is = in-option (row_if wanted e train stop later) row here }
         | inr more ↦ (let has = from-rows later row more in record {
-            earlier = stop ∷ has.earlier;
-            stop = has.stop;
-            later = has.later;
-            split = ap (λ (l : List PublicStop). stop ∷ l) has.split;
-            is = has.is;
-          })
+          earlier = stop ∷ has.earlier;
+          stop = has.stop;
+          later = has.later;
+          split = ap (λ (l : List PublicStop). stop ∷ l) has.split;
+          is = has.is;
+        })
       ]
 
   to-rows : (earlier : List PublicStop) (stop : PublicStop) (later : List PublicStop) (row : BoardRow) → row_if wanted e train stop later ≡ Some row →

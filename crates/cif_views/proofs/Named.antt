@@ -43,11 +43,11 @@ named-one t false l h = absurd (Contains-none l h)
 pub are-named : (tiplocs : List Tiploc) (place : Place) → AreLocations tiplocs place (locations_of tiplocs place)
 are-named tiplocs place l = (
   λ h. elim (Contains-cases place.tiploc (flat_map (named_by place) tiplocs) l h) [
-      | inl same ↦ inl (sym same)
-      | inr later ↦ (let (t, listed, in') = from-flat (named_by place) tiplocs l later in
+    | inl same ↦ inl (sym same)
+    | inr later ↦ (let (t, listed, in') = from-flat (named_by place) tiplocs l later in
         let (has, own) = named-one t (code_is place.crs (crs_of t)) l in' in
         inr (record { it = t; listed = listed; code = code-is place.crs (crs_of t) has; own = own }))
-    ],
+  ],
   λ named. elim named [
     | inl own ↦ subst (Contains (locations_of tiplocs place)) (sym own) (Contains-first place.tiploc (flat_map (named_by place) tiplocs))
     | inr code ↦ Contains-rest place.tiploc (flat_map (named_by place) tiplocs) l

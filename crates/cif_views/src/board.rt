@@ -1,5 +1,6 @@
 //! What a board is asked for, and what its rows say.
 ghost use Rattle.std.specs.Prelude.{◌≡◌, ◌++◌, OnOk, option_to_list};
+
 use crate::moment::TimeOfDay;
 use crate::places::Place;
 use cif_columns::{Day, Uid};

@@ -57,11 +57,7 @@ const BOARD_NAMES: [&str; 15] = [
 const CALLING_NAMES: [&str; 3] = ["calling_at", "calling_at_date", "calling_at_time"];
 
 /// Adds the names of the fields, if they stand before the rows.
-fn push_names<F: RowFormat, W: WriteDevice>(
-    rows: &mut Rows<F>,
-    board: &Board,
-    sink: &mut Sink<W>,
-)
+fn push_names<F: RowFormat, W: WriteDevice>(rows: &mut Rows<F>, board: &Board, sink: &mut Sink<W>)
     ensures { Adds W.contents W.write_errors (heading_text F.FORMAT (board_names board.now)) sink.old sink.new rows.old rows.new }
 {
     rows.push_names(sink, &BOARD_NAMES);
@@ -139,52 +135,28 @@ fn push_train<F: RowFormat, W: WriteDevice>(
                 &key.train_date.to_yymmdd(),
             ),
             ("uid", Padding::Apart, Shape::Whole, &key.uid.write()),
-            (
-                "identity",
-                Padding::Apart,
-                Shape::Trimmed,
-                &train.identity,
-            ),
+            ("identity", Padding::Apart, Shape::Trimmed, &train.identity),
             (
                 "operator_code",
                 Padding::Apart,
                 Shape::Trimmed,
                 &train.operator,
             ),
-            (
-                "category",
-                Padding::Apart,
-                Shape::Trimmed,
-                &train.category,
-            ),
+            ("category", Padding::Apart, Shape::Trimmed, &train.category),
             ("status", Padding::Apart, Shape::Trimmed, &train.status),
         ],
     );
 }
 
 /// Adds where a call is.
-fn push_call<F: RowFormat, W: WriteDevice>(
-    rows: &mut Rows<F>,
-    row: &BoardRow,
-    sink: &mut Sink<W>,
-)
+fn push_call<F: RowFormat, W: WriteDevice>(rows: &mut Rows<F>, row: &BoardRow, sink: &mut Sink<W>)
     ensures { Adds W.contents W.write_errors (fields_text F.FORMAT (call_fields row.now)) sink.old sink.new rows.old rows.new }
 {
     rows.push_fields(
         sink,
         &[
-            (
-                "location",
-                Padding::Apart,
-                Shape::Trimmed,
-                &row.location,
-            ),
-            (
-                "platform",
-                Padding::Apart,
-                Shape::Trimmed,
-                &row.platform,
-            ),
+            ("location", Padding::Apart, Shape::Trimmed, &row.location),
+            ("platform", Padding::Apart, Shape::Trimmed, &row.platform),
         ],
     );
     rows.push_number(sink, "call", row.key.call);
@@ -264,13 +236,7 @@ fn push_date<F: RowFormat, W: WriteDevice>(
     ensures { Adds W.contents W.write_errors (fields_text F.FORMAT (named (codes "calling_at_date") (date_value date) ∷ [])) sink.old sink.new rows.old rows.new }
 {
     match date {
-        Some(date) => rows.push(
-            sink,
-            "calling_at_date",
-            Padding::Apart,
-            Shape::Whole,
-            &date,
-        ),
+        Some(date) => rows.push(sink, "calling_at_date", Padding::Apart, Shape::Whole, &date),
         None => rows.push(sink, "calling_at_date", Padding::Apart, Shape::Whole, b""),
     }
 }
@@ -292,24 +258,14 @@ fn push_line<F: RowFormat, W: WriteDevice>(
     rows.push_fields(
         sink,
         &[
-            (
-                "platform",
-                Padding::Apart,
-                Shape::Trimmed,
-                &platform,
-            ),
+            ("platform", Padding::Apart, Shape::Trimmed, &platform),
             (
                 "operator_code",
                 Padding::Apart,
                 Shape::Trimmed,
                 &train.operator,
             ),
-            (
-                "identity",
-                Padding::Apart,
-                Shape::Trimmed,
-                &train.identity,
-            ),
+            ("identity", Padding::Apart, Shape::Trimmed, &train.identity),
             ("uid", Padding::Apart, Shape::Whole, &uid.write()),
         ],
     );
