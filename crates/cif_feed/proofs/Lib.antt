@@ -32,3 +32,8 @@ pub mod WrittenPrepared
 pub mod Names
 pub mod UpdatesRead
 pub mod PreparedRead
+pub mod DecidingOrder
+pub mod DecidingRuns
+pub mod RankedPositions
+pub mod PartDates
+pub mod MergedDates

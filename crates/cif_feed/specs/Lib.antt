@@ -15,6 +15,7 @@ pub mod HolidayText
 pub mod Holidays
 pub mod Judged
 pub mod LastDay
+pub mod Laws
 pub mod LayoutRefusals
 pub mod Marks
 pub mod OfProfile
