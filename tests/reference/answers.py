@@ -289,7 +289,8 @@ def is_mistake(job: Job) -> bool:
     given = {name for name in names if getattr(job, name) not in (None, False)}
     taken = (
         job.form in (None, "1", "2", "3")
-        and job.format in (None, "tsv", "json", *(["text"] if job.command not in ("table", "prepare") else []))
+        and job.format
+        in (None, "tsv", "json", *(["text"] if job.command not in ("table", "prepare") else []))
         and job.table in (None, *tables.TABLES)
         and (job.command != "prepare" or job.format is None or job.winners)
     )
