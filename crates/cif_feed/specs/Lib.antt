@@ -40,6 +40,7 @@ pub mod Updated
 pub mod UpdatesInTurn
 pub mod Waived
 pub mod Words
+pub mod Winners
 pub mod WrittenExtracts
 pub mod WrittenOver
 pub mod WrittenPrepared

@@ -1,6 +1,11 @@
 //! Which published schedule decides on each date of each train: the records of form 3 of the dates on which each does.
-ghost use Rattle.std.specs.Prelude.{◌≡◌, ◌<◌, All, IfOk, IsPermutation, length, map};
-ghost use Rattle.cif_feed.specs.Steps.Deciding.{AreInOrder, ranked_at};
+ghost use Rattle.std.specs.Prelude.{◌≡◌, ◌<◌, ℕ, All, IfOk, IsPermutation, List, codes, length, map};
+ghost use Rattle.std.specs.{BTreeMap.get, Ordering.nat_cmp};
+ghost use Rattle.cif_feed.specs.Steps.Deciding.{AppliesAt, AreDecided, AreInOrder, ranked_at, rows_of};
+ghost use Rattle.cif_feed.specs.Steps.Dropping.{ReadsTrains};
+ghost use Rattle.cif_feed.specs.{Steps.Deciding.as_record, Winners.last_value, Winners.winner_names, Winners.winner_values, Winners.winners_table};
+ghost use Rattle.cif_rows.specs.{Adds.Adds, Appended.IsAppended, Row.all_named, Row.named, Row.row_text, Steps.field_text};
+ghost use Rattle.cif_weeks.specs.Window.{window_days};
 
 use crate::deciding::{Deciders, decided};
 use crate::prepare::ClashDates;
@@ -26,6 +31,10 @@ const WINNER_NAMES: [&str; 7] = [
 /// a run is the position of the schedule.
 pub(crate) fn winning_runs(alloc: Global, deciders: Deciders<'_>) -> Result<Vec<Run>, AllocError>
     ensures within { IfOk result (λ runs. All (λ run. run.source < length deciders.entry.schedules.now) runs.items) }
+    ensures decides { IfOk result (λ runs. (days : List ℕ → List ℕ) → ReadsTrains days (get nat_cmp deciders.entry.clash_dates.now)
+        → AreDecided (window_days deciders.entry.window.now) (AppliesAt deciders.entry.holidays.now days
+        deciders.entry.window.now.last deciders.entry.schedules.now) deciders.entry.schedules.now
+        (rows_of deciders.entry.schedules.now runs.items)) }
 {
     let schedules = deciders.schedules;
     let positions = positions_by_key(alloc, schedules)?;
@@ -68,6 +77,8 @@ pub(crate) fn append_table<W: WriteDevice>(
     sink: &mut Sink<W>,
 )
     requires { All (λ run. run.source < length schedules.now) runs.now }
+    ensures { IsAppended W.contents W.write_errors (winners_table format schedules.now (rows_of schedules.now runs.now))
+        sink.old sink.new }
 {
     match format {
         Format::Text => write_rows::<Padded, W>(schedules, runs, sink),
@@ -83,6 +94,8 @@ fn write_rows<F: RowFormat, W: WriteDevice>(
     sink: &mut Sink<W>,
 )
     requires { All (λ run. run.source < length schedules.now) runs.now }
+    ensures { IsAppended W.contents W.write_errors (winners_table F.FORMAT schedules.now (rows_of schedules.now runs.now))
+        sink.old sink.new }
 {
     let mut rows = Rows::<F>::new();
     rows.push_names(sink, &WINNER_NAMES);
@@ -99,7 +112,10 @@ fn push_winner<F: RowFormat, W: WriteDevice>(
     one: &PublishedSchedule,
     run: &Run,
     sink: &mut Sink<W>,
-) {
+)
+    ensures { Adds W.contents W.write_errors (row_text F.FORMAT (all_named winner_names (winner_values one.now (as_record run.now))))
+        sink.old sink.new rows.old rows.new }
+{
     let schedule = &one.schedule;
     rows.begin_row(sink);
     rows.push(
@@ -153,7 +169,10 @@ fn push_last<F: RowFormat, W: WriteDevice>(
     rows: &mut Rows<F>,
     one: &PublishedSchedule,
     sink: &mut Sink<W>,
-) {
+)
+    ensures { Adds W.contents W.write_errors (field_text F.FORMAT (named (codes "last_date") (last_value one.now)))
+        sink.old sink.new rows.old rows.new }
+{
     if one.open_end {
         rows.push(sink, "last_date", Padding::Apart, Shape::Trimmed, b"");
     } else {

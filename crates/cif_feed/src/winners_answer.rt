@@ -1,14 +1,17 @@
 //! What `prepare --winners` answers, for any devices: which published schedule decides on each date of each train.
-ghost use Rattle.std.specs.Prelude.{◌≡◌, ◌<◌, ◌≤◌, All, IfOk, length};
+ghost use Rattle.std.specs.Prelude.{◌≡◌, ◌<◌, ◌≤◌, ◌∷◌, [], All, IfNone, IfOk, IfSome, List, false, length};
+ghost use Rattle.cif_feed.specs.{PublishedParts.published_parts, Steps.Deciding.rows_of, Winners.AreWinners};
+ghost use Rattle.cif_feed.specs.declared.dropped.DroppedKey.{DroppedKey};
 ghost use Rattle.cif_columns.specs.declared.{line_reader.TheConstants.MAX_LINES};
 
 use crate::deciding::Deciders;
-use crate::prepare::read_holidays;
+use crate::prepare::{ClashDates, read_holidays};
 use crate::winners::{append_table, winning_runs};
 use crate::{Dropped, DroppedKey, FeedFault, KeptPrepare, Preparation, PublishedExtract};
 use cif_calendar::Window;
 use cif_columns::{MAX_LINES, ReadDevice, Sink, Source, WriteDevice};
 use cif_extract::{Clash, Fault};
+use cif_records::AssocKey;
 use cif_rows::Format;
 use cif_weeks::Run;
 use std::alloc::Global;
@@ -86,21 +89,16 @@ impl PublishedExtract {
         preparation: Preparation<'_>,
     ) -> Result<(Vec<Run>, Dropped), FeedFault>
         ensures within { IfOk result (λ made. All (λ run. run.source < length self.now.schedules.items) made.0.items) }
+        ensures winners { IfOk result (λ made. AreWinners preparation.entry.holidays.now preparation.entry.drops_clashes
+            (published_parts self.now) (rows_of self.now.schedules.items made.0.items)) }
     {
         let holidays = preparation.holidays;
         let mut keys = Vec::new(alloc);
         let (associations, trains) = self.clash_dates(alloc, holidays, &mut keys)?;
-        let records = if preparation.drops_clashes {
-            self.count_clashing_associations(holidays, &associations)
-                + self.count_clashing_schedules(holidays, &trains)
-        } else {
-            0
-        };
-        if !preparation.drops_clashes
-            && let Some(clash) = first_clash(&mut keys)
-        {
+        if let Some(clash) = refused_clash(preparation.drops_clashes, &mut keys) {
             return Err(FeedFault::Extract(Fault::Ambiguous(clash)));
         }
+        let records = self.count_dropped(preparation, &associations, &trains);
         let runs = winning_runs(
             alloc,
             Deciders {
@@ -112,11 +110,31 @@ impl PublishedExtract {
         )?;
         Ok((runs, Dropped { keys, records }))
     }
+
+    /// How many of its records apply on a date on which their key clashes, if clashes are dropped.
+    fn count_dropped(
+        &self,
+        preparation: Preparation<'_>,
+        associations: &ClashDates<AssocKey>,
+        trains: &ClashDates<u64>,
+    ) -> usize {
+        if preparation.drops_clashes {
+            let holidays = preparation.holidays;
+            self.count_clashing_associations(holidays, associations)
+                + self.count_clashing_schedules(holidays, trains)
+        } else {
+            0
+        }
+    }
 }
 
-/// Takes the first clash of the first of these keys, if there is one.
-fn first_clash(keys: &mut Vec<DroppedKey>) -> Option<Clash> {
-    if keys.is_empty() {
+/// Takes the first clash of the first of these keys, if there is one, unless clashes are dropped.
+fn refused_clash(drops_clashes: bool, keys: &mut Vec<DroppedKey>) -> Option<Clash>
+    ensures kept { IfNone result ((keys.new.items ≡ keys.old.items) × (drops_clashes ≡ false → keys.old.items ≡ [])) }
+    ensures first { IfSome result (λ clash. (drops_clashes ≡ false) × ((key : DroppedKey) × (others : List DroppedKey)
+        × (keys.old.items ≡ key ∷ others) × (clash ≡ key.clash))) }
+{
+    if drops_clashes || keys.is_empty() {
         return None;
     }
     Some(keys.remove(0).clash)

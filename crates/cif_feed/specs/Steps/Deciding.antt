@@ -4,6 +4,9 @@ use Rattle.std.specs.List.{AllZip}
 use Rattle.cif_calendar.specs.{Applies.Applies, Entries.schedule_terms, Runs.BodyRuns, Source.body_at, Terms.Terms}
 use Rattle.cif_columns.specs.Stp.{letter}
 use Rattle.cif_columns.specs.declared.{stp.Stp.Stp, stp.Stp.TheVariants.O, stp.Stp.TheVariants.P}
+use Rattle.std.specs.{Cmp.Lexicographic.slice_cmp, Ordering.nat_cmp}
+use Rattle.cif_calendar.specs.Keys.{of_key}
+use Rattle.cif_weeks.specs.Canonical.{AreCanonical}
 use Rattle.cif_weeks.specs.{HaveForm.HaveForm, Permanent.Permanent, Runs.record_of, WhatRuns.HasBody, Window.IsWithin, Window.Window}
 use Rattle.cif_weeks.specs.declared.{form.Form.TheVariants.Three, form.Run.Run}
 use Rattle.cif_feed.specs.{Parts.ended, Prepared.prepared_last, PublishedParts.published_schedule_terms, Steps.Dropping.IsStopAmong}
@@ -93,10 +96,13 @@ precedence_in None = 0
 abbrev pub ranked_at : List PublishedSchedule → ℕ → ℕ × ℕ
 ranked_at schedules position = (precedence_in (slice_get schedules position), position)
 
--- each goes before the next, or is the same: by its precedence, and then by its position
+-- one goes before the other, or is the same: by its precedence, and then by its position
+abbrev pub GoesBefore : ℕ × ℕ → ℕ × ℕ → Type 0
+GoesBefore p q = (p.0 ≤ q.0) × (p.0 ≡ q.0 → p.1 ≤ q.1)
+
+-- each goes before the next
 abbrev pub AreInOrder : List (ℕ × ℕ) → Type 0
-AreInOrder ranked = (k : ℕ) (d : ℕ × ℕ) → k + 1 < length ranked → ((get_or ranked k d).0 ≤ (get_or ranked (k + 1) d).0)
-    × ((get_or ranked k d).0 ≡ (get_or ranked (k + 1) d).0 → (get_or ranked k d).1 ≤ (get_or ranked (k + 1) d).1)
+AreInOrder ranked = (k : ℕ) (d : ℕ × ℕ) → k + 1 < length ranked → GoesBefore (get_or ranked k d) (get_or ranked (k + 1) d)
 
 -- of the positions, each of which goes before those behind it, this is the first that applies on the day
 abbrev pub DecidesAmong : (ℕ → ℕ → Type 0) → List ℕ → ℕ → ℕ → Type 0
@@ -111,3 +117,33 @@ source_in None other = other
 -- the run with the position that its entry has
 abbrev pub sourced : List DecidingDates → Run → Run
 sourced entries run = record run { source = source_in (slice_get entries run.source) run.source }
+
+-- ---- trains
+
+-- The schedule at position i is the train's and applies on the day, and goes before the others of the train that do.
+pub record DecidesFor (applies : ℕ → ℕ → Type 0) (schedules : List PublishedSchedule) (train : List ℕ) (n i : ℕ) : Type 0 where
+  pub it : PublishedSchedule
+  pub at : slice_get schedules i ≡ Some it
+  pub of_train : it.schedule.uid ≡ train
+  pub on : applies i n
+  pub least : (j : ℕ) (other : PublishedSchedule) → slice_get schedules j ≡ Some other → other.schedule.uid ≡ train → applies j n
+      → GoesBefore (ranked_at schedules i) (ranked_at schedules j)
+
+-- the train of a schedule
+abbrev pub uid_in : Option PublishedSchedule → List ℕ
+uid_in (Some s) = s.schedule.uid
+uid_in None = []
+
+-- a run as a row: with the train of its schedule
+abbrev pub row_of : List PublishedSchedule → Run → List ℕ × Permanent ℕ
+row_of schedules run = (uid_in (slice_get schedules run.source), as_record run)
+
+abbrev pub rows_of : List PublishedSchedule → List Run → List (List ℕ × Permanent ℕ)
+rows_of schedules runs = map (row_of schedules) runs
+
+-- The rows are in the order of trains and first days, those of each train have form 3, and on each day of the window they show what decides
+-- for the train.
+pub record AreDecided (window : Window) (applies : ℕ → ℕ → Type 0) (schedules : List PublishedSchedule)
+    (rows : List (List ℕ × Permanent ℕ)) : Type 0 where
+  pub canonical : AreCanonical (slice_cmp nat_cmp) Three window rows
+  pub say : (k : List ℕ) (n i : ℕ) → IsWithin window n → DecidesFor applies schedules k n i ↔ HasBody (of_key rows k) n i
