@@ -48,7 +48,7 @@ _cif() {
         --form) _cif_offer '1 2 3' ;;
         --format)
             case $command in
-            table) _cif_offer 'tsv json' ;;
+            table | prepare) _cif_offer 'tsv json' ;;
             *) _cif_offer 'text tsv json' ;;
             esac
             ;;
@@ -68,7 +68,7 @@ _cif() {
         clashes | calendar) options='-v --verbose --from --to --format -h --help' ;;
         day) options='-v --verbose --stops --format -h --help' ;;
         explain) options='-v --verbose --format -h --help' ;;
-        prepare) options='-v --verbose --holidays --drop-clashes -h --help' ;;
+        prepare) options='-v --verbose --holidays --drop-clashes --winners --format -h --help' ;;
         update) options='-v --verbose --lenient --in-sequence -h --help' ;;
         esac
         _cif_offer "$options"

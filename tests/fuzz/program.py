@@ -26,6 +26,7 @@ def words_of(job: Job) -> List[str]:
     words += ["--all"] if job.all else []
     words += [] if job.holidays is None else ["--holidays", job.holidays]
     words += ["--drop-clashes"] if job.drop_clashes else []
+    words += ["--winners"] if job.winners else []
     words += ["--lenient"] if job.lenient else []
     words += ["--in-sequence"] if job.in_sequence else []
     words += ["--verbose"] if job.verbose else []

@@ -16,6 +16,7 @@ from .json_rows import rows_of
 from .meaning import Meaning, all_clashes, clash_dates, first_difference
 from .reasons import all_reasons, listed
 from .verbose import Input
+from .winners import winner_table
 
 # The bytes of each input, or None where it can't be read.
 Inputs = Sequence[Optional[bytes]]
@@ -44,6 +45,7 @@ class Job(NamedTuple):
     drop_clashes: bool = False
     lenient: bool = False
     in_sequence: bool = False
+    winners: bool = False
     verbose: bool = False
 
 
@@ -71,7 +73,7 @@ OPTIONS = {
     "clashes": {"first", "last", "format"},
     "table": {"first", "last", "form", "format"},
     "calendar": {"first", "last", "format"},
-    "prepare": {"holidays", "drop_clashes"},
+    "prepare": {"holidays", "drop_clashes", "winners", "format"},
     "update": {"lenient", "in_sequence"},
 }
 OF_TWO = ("compare", "diff")
@@ -128,8 +130,8 @@ def shown(job: Job, inputs: Inputs) -> List[Input]:
 
 def of_prepare(job: Job, inputs: List[Input]) -> Tuple[List[str], int, List[str], List[str]]:
     """
-    The lines of the prepared extract, a line for each code whose holidays don't reach the window, and one for each key that is
-    dropped.
+    The lines of the prepared extract, or of the table of its winners, a line for each code whose holidays don't reach the window,
+    and one for each key that is dropped.
     """
     with of_input(1):
         holidays = {} if job.holidays is None else read_holidays(inputs[1].data)
@@ -139,14 +141,22 @@ def of_prepare(job: Job, inputs: List[Input]) -> Tuple[List[str], int, List[str]
     clashes = clash_dates(extract_of(records)) if job.drop_clashes else None
     if clashes:
         records = published.prepared(read, holidays, clashes)
+    elif job.winners and not job.drop_clashes:
+        refuse_clash(extract_of(records))
     told = published.unreached(read, holidays)
     told += [published.told(key, days) for key, days in (clashes or {}).items()]
-    return (
-        published.written(records),
-        0,
-        told,
-        verbose.of_prepared(inputs[0], read, holidays, clashes),
-    )
+    if job.winners:
+        lines = winner_table(read, holidays, job.drop_clashes)
+        lines = rows_of(lines, job.command, False) if job.format == "json" else lines
+    else:
+        lines = published.written(records)
+    return lines, 0, told, verbose.of_prepared(inputs[0], read, holidays, clashes)
+
+
+def refuse_clash(extract: Extract) -> None:
+    """Refuses the first clash, if there is one."""
+    for clash in all_clashes(extract).values():
+        raise Fault(f"Ambiguous: {clash}", REFUSED)
 
 
 def waived_by(job: Job) -> Set[str]:
@@ -274,12 +284,15 @@ def is_mistake(job: Job) -> bool:
         "drop_clashes",
         "lenient",
         "in_sequence",
+        "winners",
     )
     given = {name for name in names if getattr(job, name) not in (None, False)}
     taken = (
         job.form in (None, "1", "2", "3")
-        and job.format in (None, "tsv", "json", *(["text"] if job.command != "table" else []))
+        and job.format
+        in (None, "tsv", "json", *(["text"] if job.command not in ("table", "prepare") else []))
         and job.table in (None, *tables.TABLES)
+        and (job.command != "prepare" or job.format is None or job.winners)
     )
     count = len(job.files)
     fits = (

@@ -7,7 +7,7 @@ use Rattle.clap.specs.declared.{Command.Command, Command.TheViews.out-Command, b
 use Rattle.cif_tool.specs.declared.{command_line.Argument.Argument, command_line.Choices.Choices, command_line.Syntax.Syntax}
 use Rattle.cif_tool.specs.declared.command_line.Argument.TheVariants.{All, CallingAt, Common, Date, DropClashes, File, Form, Format, FromDate, Full}
 use Rattle.cif_tool.specs.declared.command_line.Argument.TheVariants.{Holidays, InSequence, Left, Lenient, Place, Right, Stops, Table}
-use Rattle.cif_tool.specs.declared.command_line.Argument.TheVariants.{TableFormat, ToDate, Uid, Updates, Verbose}
+use Rattle.cif_tool.specs.declared.command_line.Argument.TheVariants.{TableFormat, ToDate, Uid, Updates, Verbose, Winners, WinnersFormat}
 use Rattle.cif_tool.specs.declared.command_line.Syntax.TheVariants as syntax
 
 -- a word that may not be left out
@@ -67,6 +67,8 @@ given Common = (codes "common", syntax.Flag)
 given Stops = (codes "stops", syntax.Flag)
 given Holidays = (codes "holidays", syntax.Name)
 given DropClashes = (codes "drop-clashes", syntax.Flag)
+given Winners = (codes "winners", syntax.Flag)
+given WinnersFormat = (codes "format", syntax.WinnersFormat)
 given Lenient = (codes "lenient", syntax.Flag)
 given InSequence = (codes "in-sequence", syntax.Flag)
 given Form = (codes "form", syntax.Form)
@@ -89,6 +91,7 @@ argument choices (id, syntax.Place) = option id
 argument choices (id, syntax.Form) = one_of_or choices.forms (codes "2") (option id)
 argument choices (id, syntax.Format) = one_of_or choices.formats (codes "text") (option id)
 argument choices (id, syntax.TableFormat) = one_of_or choices.table_formats (codes "tsv") (option id)
+argument choices (id, syntax.WinnersFormat) = one_of choices.table_formats (option id)
 argument choices (id, syntax.Table) = one_of choices.tables (required id)
 
 -- a subcommand that takes these arguments too
@@ -144,9 +147,9 @@ departures = Verbose ∷ Place ∷ Date ∷ File ∷ CallingAt ∷ Format ∷ []
 abbrev pub arrivals : List Argument
 arrivals = Verbose ∷ Place ∷ Date ∷ File ∷ Format ∷ []
 
--- `cif prepare [-v] [--holidays FILE] [--drop-clashes] [FILE]`
+-- `cif prepare [-v] [--holidays FILE] [--drop-clashes] [--winners [--format FORMAT]] [FILE]`
 abbrev pub prepare : List Argument
-prepare = Verbose ∷ File ∷ Holidays ∷ DropClashes ∷ []
+prepare = Verbose ∷ File ∷ Holidays ∷ DropClashes ∷ Winners ∷ WinnersFormat ∷ []
 
 -- `cif update [-v] [--lenient] [--in-sequence] FULL UPDATE...`
 abbrev pub update : List Argument

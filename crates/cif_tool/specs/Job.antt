@@ -17,7 +17,8 @@ use Rattle.cif_weeks.specs.declared.{form.Form.Form, form.Form.TheVariants.One, 
 use Rattle.cif_weeks.specs.declared.form.Form.TheVariants.{Two}
 use Rattle.cif_tool.specs.{CommandLine.AreChoices, CommandLine.chosen, CommandLine.faults_of, declared.job.Job.TheVariants.Train}
 use Rattle.cif_tool.specs.declared.{command_line.Choices.Choices, job.FeedJob.FeedJob, job.FeedJob.TheVariants.Prepare}
-use Rattle.cif_tool.specs.declared.{job.FeedJob.TheVariants.Update, job.InputNames.InputNames, job.Job.Job, job.Request.Request}
+use Rattle.cif_tool.specs.declared.{job.FeedJob.TheVariants.Update, job.FeedJob.TheVariants.Winners}
+use Rattle.cif_tool.specs.declared.{job.InputNames.InputNames, job.Job.Job, job.Request.Request}
 use Rattle.cif_tool.specs.declared.{job.Task.Task, job.Task.TheVariants.Extract, job.Task.TheVariants.Feed}
 use Rattle.cif_tool.specs.declared.job.{BoardJob.BoardJob}
 use Rattle.cif_tool.specs.declared.job.Job.TheVariants.{Board, Calendar, Check, CheckAll, Clashes, Compare, Day, Diff, Explain, Normalise, Table}
@@ -171,12 +172,15 @@ IsChosen (Calendar job) met = (met.0 ≡ codes "calendar")
     × IsUidWord (required_word (codes "UID") met.1) job.uid
     × IsAskedBy met.1 job.asked
     × (job.format ≡ format_of (first_of (codes "format") met.1))
-
 IsChosen (Board job) met = (met.0 ≡ board_name job.board.kind) × AreBoardWords met.1 job
 
 -- the words that were met ask for this job on published extracts
 abbrev pub IsFeedChosen : FeedJob → Text × List Row → Type 0
-IsFeedChosen (Prepare job) met = (met.0 ≡ codes "prepare") × (job.drop_clashes ≡ has_flag (codes "drop-clashes") met.1)
+IsFeedChosen (Prepare job) met = (met.0 ≡ codes "prepare") × (has_flag (codes "winners") met.1 ≡ false)
+    × (first_of (codes "format") met.1 ≡ None) × (job.drop_clashes ≡ has_flag (codes "drop-clashes") met.1)
+IsFeedChosen (Winners job) met = (met.0 ≡ codes "prepare") × (has_flag (codes "winners") met.1 ≡ true)
+    × (job.format ≡ table_format_of (first_of (codes "format") met.1))
+    × (job.prepare.drop_clashes ≡ has_flag (codes "drop-clashes") met.1)
 IsFeedChosen (Update job) met = (met.0 ≡ codes "update") × (job.waived ≡ waived_of met.1)
 
 -- the words that were met ask for this task

@@ -1,6 +1,6 @@
 -- Why the words of a call ask for nothing.
 use Rattle.std.specs.Prelude.{Err, IfErr, IfOk, IsSomeAnd, List, None, Ok, Option, Result, Some, [], codes, if◌then◌else◌, string_bytes, ℕ}
-use Rattle.std.specs.Prelude.{⊤, ⊥, ◌<◌, ◌∷◌, ◌≡◌, ◌≢◌, ◌⊎◌}
+use Rattle.std.specs.Prelude.{false, ⊤, ⊥, ◌++◌, ◌<◌, ◌∷◌, ◌≡◌, ◌≢◌, ◌⊎◌}
 use Rattle.std.specs.Str.{bytes_eq}
 use Rattle.clap.specs.{Words.IsAmong, Words.Row, Words.Text, Words.first_of, declared.error.ErrorKind.TheVariants.DisplayVersion}
 use Rattle.clap.specs.declared.{error.ErrorKind.ErrorKind, error.ErrorKind.TheVariants.DisplayHelp}
@@ -10,11 +10,11 @@ use Rattle.cif_extract.specs.declared.{fault.Fault.Fault, fault.Fault.TheVariant
 use Rattle.cif_feed.specs.FeedAnswer.{IsHandedOn}
 use Rattle.cif_views.specs.Places.{IsPlaceWord}
 use Rattle.cif_tool.specs.CommandLine.{AreChoices, chosen, faults_of, subcommands}
-use Rattle.cif_tool.specs.Job.{IsTaskChosen, inputs_of, required_word, standard_inputs}
+use Rattle.cif_tool.specs.Job.{IsTaskChosen, has_flag, inputs_of, required_word, standard_inputs}
 use Rattle.cif_tool.{specs.Status.ReportsFault, specs.Status.end_status, specs.declared.job.Task.Task}
 use Rattle.cif_tool.specs.declared.{command_line.Argument.Argument, command_line.Choices.Choices, job.Inputs.Inputs, job.JobFault.JobFault}
 use Rattle.cif_tool.specs.declared.job.Inputs.TheVariants.{Extracts, HolidaysAndFile, LeftAndRight}
-use Rattle.cif_tool.specs.declared.job.JobFault.TheVariants.{BadDate, BadPlace, BadUid, Memory, NoCommand, StandardInputTwice, Usage}
+use Rattle.cif_tool.specs.declared.job.JobFault.TheVariants.{BadDate, BadPlace, BadUid, FormatAlone, Memory, NoCommand, StandardInputTwice, Usage}
 
 -- the word isn't a date
 abbrev pub NamesNoDay : Text → Type 0
@@ -59,6 +59,11 @@ abbrev pub HasBadUid : Text × List Row → Type 0
 HasBadUid met = ((met.0 ≡ codes "train") ⊎ ((met.0 ≡ codes "explain") ⊎ (met.0 ≡ codes "calendar")))
     × IsNoUid (required_word (codes "UID") met.1)
 
+-- `prepare` is given a format, and no table of winners is asked for
+abbrev pub HasFormatAlone : Text × List Row → Type 0
+HasFormatAlone met =
+    (met.0 ≡ codes "prepare") × (has_flag (codes "winners") met.1 ≡ false) × ((word : Text) × (first_of (codes "format") met.1 ≡ Some word))
+
 -- none of these subcommands has the name
 abbrev pub IsNoneOf : List (Text × List Argument) → Text → Type 0
 IsNoneOf [] name = ⊤
@@ -77,13 +82,15 @@ pub record IsStandardTwice (inputs : Inputs) (met : Text × List Row) : Type 0 w
   pub which : inputs ≡ several_of met.0
 
 -- Why the words of a subcommand ask for nothing: it isn't one of the program's own; or a UID is none, or a place is none, or else a date is
--- none, or else the place where trains have to call is none, or else two inputs are standard input. Memory may run out at any words.
+-- none, or else the place where trains have to call is none; or there is a format without a table; or else two inputs are standard input.
+-- Memory may run out at any words.
 abbrev pub IsWordFault : JobFault → Text × List Row → Type 0
 IsWordFault NoCommand met = IsNoneOf subcommands met.0
 IsWordFault BadUid met = HasBadUid met
 IsWordFault BadPlace met = HasBadPlace met ⊎ (IsBoardName met.0 × (¬ HasBadPlace met) × (¬ HasBadDay met) × HasBadGoal met.1)
 IsWordFault BadDate met = (¬ HasBadUid met) × (¬ HasBadPlace met)
     × (HasBadDay met ⊎ HasBadWindow met.1)
+IsWordFault FormatAlone met = HasFormatAlone met
 IsWordFault (StandardInputTwice inputs) met = IsStandardTwice inputs met
 IsWordFault Memory met = ⊤
 IsWordFault (Usage kind text) met = ⊥
@@ -123,6 +130,7 @@ status_of NoCommand = 2
 status_of BadDate = 2
 status_of BadUid = 2
 status_of BadPlace = 2
+status_of FormatAlone = 2
 status_of (StandardInputTwice inputs) = 2
 status_of Memory = 4
 
@@ -133,6 +141,8 @@ text_of NoCommand = codes "cif: no command\n"
 text_of BadDate = codes "cif: bad date\n"
 text_of BadUid = codes "cif: bad UID\n"
 text_of BadPlace = codes "cif: bad place\n"
+text_of FormatAlone = codes "error: the following required arguments were not provided:\n  --winners\n\n"
+    ++ codes "Usage: cif prepare --winners --format <FORMAT> [FILE]\n\nFor more information, try '--help'.\n"
 text_of (StandardInputTwice LeftAndRight) = codes "cif: LEFT and RIGHT are both standard input\n"
 text_of (StandardInputTwice HolidaysAndFile) = codes "cif: --holidays and FILE are both standard input\n"
 text_of (StandardInputTwice Extracts) = codes "cif: two inputs are standard input\n"

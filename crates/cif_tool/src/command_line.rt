@@ -7,8 +7,9 @@ ghost use Rattle.cif_tool.specs.CommandLine.{AreChoices, IsCommand, argument, ch
 
 use crate::help;
 use Argument::{
-    All, CallingAt, Common, Date, DropClashes, File, Form, Format, FromDate, Full, Holidays, InSequence, Left,
-    Lenient, Place, Right, Stops, Table, TableFormat, ToDate, Uid, Updates, Verbose,
+    All, CallingAt, Common, Date, DropClashes, File, Form, Format, FromDate, Full, Holidays,
+    InSequence, Left, Lenient, Place, Right, Stops, Table, TableFormat, ToDate, Uid, Updates,
+    Verbose, Winners, WinnersFormat,
 };
 use clap::{Arg, ArgAction, ArgMatches, Command};
 use std::alloc::{AllocError, Global};
@@ -38,6 +39,8 @@ enum Syntax {
     Format,
     /// By `--ID FORMAT`, where a table in TSV is the default.
     TableFormat,
+    /// By `--ID FORMAT`, where no table may be wanted.
+    WinnersFormat,
     /// By a word that may not be left out, and names a table.
     Table,
 }
@@ -60,6 +63,8 @@ enum Argument {
     Stops,
     Holidays,
     DropClashes,
+    Winners,
+    WinnersFormat,
     Lenient,
     InSequence,
     Form,
@@ -91,6 +96,8 @@ impl Argument {
             Stops => ("stops", Syntax::Flag, help::STOPS),
             Holidays => ("holidays", Syntax::Name, help::HOLIDAYS),
             DropClashes => ("drop-clashes", Syntax::Flag, help::DROP_CLASHES),
+            Winners => ("winners", Syntax::Flag, help::WINNERS),
+            WinnersFormat => ("format", Syntax::WinnersFormat, help::WINNERS_FORMAT),
             Lenient => ("lenient", Syntax::Flag, help::LENIENT),
             InSequence => ("in-sequence", Syntax::Flag, help::IN_SEQUENCE),
             Form => ("form", Syntax::Form, help::FORM),
@@ -160,6 +167,7 @@ fn arg_of<'a>(alloc: Global, given: (&'a str, Syntax, &'a str), choices: &Choice
             "text",
         ).hide_possible_values(true),
         Syntax::TableFormat => one_of_or(option(arg, id, "FORMAT"), choices.table_formats, "tsv"),
+        Syntax::WinnersFormat => option(arg, id, "FORMAT").value_parser(choices.table_formats),
         Syntax::Table => arg
             .required(true)
             .value_parser(choices.tables)
@@ -276,7 +284,7 @@ static SUBCOMMANDS: [Parts<'static>; 14] = [
     (
         "prepare",
         help::PREPARE,
-        &[Verbose, File, Holidays, DropClashes],
+        &[Verbose, File, Holidays, DropClashes, Winners, WinnersFormat],
     ),
     (
         "update",

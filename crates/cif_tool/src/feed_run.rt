@@ -6,14 +6,14 @@ ghost use Rattle.cif_feed.specs.FeedAnswer.{IsReported, IsUpdateAnswer, IsUpdate
 ghost use Rattle.cif_tool.specs.Reported.{dropped_line, feed_status_of, prepared_line, refused_line, unreached_line, waived_line};
 ghost use Rattle.cif_tool.specs.Reported.{reported_by_prepare, reported_by_update, reported_status};
 
-use crate::job::{PrepareJob, UpdateJob};
+use crate::job::{PrepareJob, UpdateJob, WinnersJob};
 use crate::status::{DONE, Ended, REFUSED, status};
 use arrayvec::ArrayString;
 use cif_canon::writing::{Texts, append, write_each};
 use cif_columns::{ReadDevice, Sink, Source, WriteDevice};
 use cif_feed::{
     DoneUpdate, Dropped, DroppedKey, FeedFault, KeptPrepare, KeptUpdate, RefusedLine, Unreached,
-    answer_prepare, answer_update,
+    answer_prepare, answer_update, answer_winners,
 };
 use std::alloc::Global;
 
@@ -46,6 +46,42 @@ pub fn run_prepare<R: ReadDevice, W: WriteDevice, E: WriteDevice>(
         holidays: None,
     };
     let answer = answer_prepare(alloc, holidays, source, sink, job.drop_clashes, &mut kept);
+    let status = end_prepare(&answer, &kept, errors);
+    Ended {
+        answer,
+        status,
+        kept,
+    }
+}
+
+/// Writes which published record decides on each date of each train, of what the source gives, with the holidays that the
+/// other source gives, if there is one. What goes to `errors` is as of `run_prepare`.
+pub fn run_winners<R: ReadDevice, W: WriteDevice, E: WriteDevice>(
+    alloc: Global,
+    job: &WinnersJob,
+    holidays: &mut Option<Source<R>>,
+    source: &mut Source<R>,
+    sink: &mut Sink<W>,
+    errors: &mut Sink<E>,
+) -> Ended<Result<Dropped, FeedFault>, KeptPrepare>
+    ensures reported { IsAppended E.contents E.write_errors (reported_by_prepare result.answer result.kept)
+        errors.old errors.new }
+    ensures status { result.status ≡ reported_status result.answer }
+{
+    let mut kept = KeptPrepare {
+        extract: None,
+        holidays: None,
+    };
+    let drop_clashes = job.prepare.drop_clashes;
+    let answer = answer_winners(
+        alloc,
+        holidays,
+        source,
+        sink,
+        drop_clashes,
+        job.format,
+        &mut kept,
+    );
     let status = end_prepare(&answer, &kept, errors);
     Ended {
         answer,

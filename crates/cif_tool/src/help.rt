@@ -291,10 +291,16 @@ With --drop-clashes nothing of a train or an association runs on the dates on
 which it has a clash, and standard error names these: the first, and how many
 more there are.
   cif: dropped: train [UID] on YYMMDD and N more dates
+With --winners prints a table in place of the extract, as tsv unless --format
+says json, with the fields uid, first_date, last_date, stp_indicator, wins_from,
+wins_to and days_run: the UID, dates and letter of a published schedule, and
+dates on which it decides what runs, or, with letter C, that nothing does. An
+open end is empty. A clash is refused, unless --drop-clashes is given.
 
 Examples:
   cif prepare --holidays holidays.txt published.cif > extract.cif
   cif prepare --drop-clashes published.cif > extract.cif
+  cif prepare --winners published.cif > winners.tsv
 
 Statuses:
   0  success
@@ -367,6 +373,10 @@ pub(crate) const STOPS: &str = "List the calls of each train too";
 pub(crate) const HOLIDAYS: &str = "The dates of the holiday codes; - is standard input";
 
 pub(crate) const DROP_CLASHES: &str = "Leave out what has a clash, on the dates of the clash";
+
+pub(crate) const WINNERS: &str = "Write which published record decides each date";
+
+pub(crate) const WINNERS_FORMAT: &str = "Layout of --winners";
 
 pub(crate) const LENIENT: &str = "Go on if an update doesn't follow, or a line doesn't fit";
 

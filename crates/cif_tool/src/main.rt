@@ -23,9 +23,9 @@ use crate::advice::DoneJob;
 use crate::answers::run_job;
 use crate::devices::{ExtractInput, NOTHING_WRITTEN, boxed_source, source_of, standard_output};
 use crate::feed_advice::{DonePrepareJob, DoneUpdateJob};
-use crate::feed_run::{run_prepare, run_update};
+use crate::feed_run::{run_prepare, run_update, run_winners};
 use crate::job::{
-    FeedJob, InputNames, Job, JobFault, PrepareJob, Request, Task, UpdateJob, run_fault,
+    FeedJob, InputNames, Job, JobFault, PrepareJob, Request, Task, UpdateJob, WinnersJob, run_fault,
 };
 use crate::message::Verbosity;
 use crate::status::{USAGE_ERROR, end};
@@ -65,6 +65,7 @@ fn run_words(rt: HostRuntime, words: Vec<String>, errors: &mut Sink<Stderr>) -> 
             let done = match &request.task {
                 Task::Extract(job) => answer_job(rt, job, &request, errors),
                 Task::Feed(FeedJob::Prepare(job)) => prepare(rt, job, &request, errors),
+                Task::Feed(FeedJob::Winners(job)) => winners(rt, job, &request, errors),
                 Task::Feed(FeedJob::Update(job)) => update(rt, job, &request, errors),
             };
             end(&done, errors)
@@ -153,6 +154,37 @@ fn prepare(
         let done_job = DonePrepareJob {
             verbosity,
             job,
+            written: &written,
+            holidays: holidays.as_ref(),
+            extract: source.reader(),
+        };
+        done_job.advise(alloc, &ended.answer, &ended.kept, errors);
+    }
+    Ok(ended.status)
+}
+
+/// Writes which published record decides on each date of each train, of the inputs of `prepare`, and returns the status.
+/// Memory comes as in `answer_job`.
+// Inlined, it would keep its inputs on the stack beside those of `update`.
+#[inline(never)]
+fn winners(
+    rt: HostRuntime,
+    job: &WinnersJob,
+    request: &Request,
+    errors: &mut Sink<Stderr>,
+) -> Result<u8, Fault> {
+    let alloc = rt.alloc();
+    let verbosity = Verbosity::of(rt, request.verbose);
+    let mut holidays = source_of_holidays(rt, &request.inputs, verbosity);
+    let mut source = boxed_source(rt, "", request.inputs.last(), verbosity)?;
+    let mut written = NOTHING_WRITTEN;
+    let mut output = standard_output(rt, &mut written)?;
+    let ended = run_winners(alloc, job, &mut holidays, &mut *source, &mut output, errors);
+    let ended = ManuallyDrop::new(ended);
+    if verbosity.helps() {
+        let done_job = DonePrepareJob {
+            verbosity,
+            job: &job.prepare,
             written: &written,
             holidays: holidays.as_ref(),
             extract: source.reader(),

@@ -4,7 +4,7 @@ ghost use Rattle.std.specs.Prelude.{MatchOption, String, codes, false, map, opti
 ghost use Rattle.clap.specs.Words.{all_of, first_of, found_of, kind_of, rows_of, subcommand_rows_of};
 ghost use Rattle.cif_columns.specs.DateWord.{IsDateWord};
 ghost use Rattle.cif_tool.specs.CommandLine.{feed_subcommands};
-ghost use Rattle.cif_tool.specs.Job.{AreBoardWords, Asks, IsAskedBy, IsChosen, IsPlaceIf, IsDateOf, IsRequestChosen};
+ghost use Rattle.cif_tool.specs.Job.{AreBoardWords, Asks, IsAskedBy, IsChosen, IsPlaceIf, IsDateOf, IsFeedChosen, IsRequestChosen};
 ghost use Rattle.cif_tool.specs.Job.{IsTaskChosen, IsUidWord, file_of, form_of, format_of, has_flag, inputs_of, is_standard, listing_of};
 ghost use Rattle.cif_tool.specs.Job.{names_of, required_word, standard_inputs, table_format_of, table_of, waived_of};
 ghost use Rattle.cif_views.specs.Places.{IsPlaceOf, IsPlaceWord};
@@ -13,8 +13,9 @@ ghost use Rattle.cif_tool.specs.JobFault.{IsFaultOf, IsNoUid, IsNoneOf, NamesNoD
 
 use crate::command_line::{all_choices, matches_of};
 use crate::job::{
-    BoardJob, CalendarJob, CanonicalJob, ClashesJob, CompareJob, DayJob, DiffJob, ExplainJob, FeedJob,
-    InputNames, Inputs, Job, JobFault, PrepareJob, Request, TableJob, Task, TrainJob, UpdateJob,
+    BoardJob, CalendarJob, CanonicalJob, ClashesJob, CompareJob, DayJob, DiffJob, ExplainJob,
+    FeedJob, InputNames, Inputs, Job, JobFault, PrepareJob, Request, TableJob, Task, TrainJob,
+    UpdateJob, WinnersJob,
 };
 use crate::message::{Escaped, Verbosity};
 use cif_canon::Asked;
@@ -148,13 +149,30 @@ fn named_task(name: &str, matches: &ArgMatches<'_>) -> Result<Task, JobFault>
     ensures { IsAskedFor IsTaskChosen (name.now, rows_of (found_of matches.now)) result }
 {
     match name {
-        "prepare" => Ok(Task::Feed(FeedJob::Prepare(PrepareJob {
-            drop_clashes: has_flag(matches, "drop-clashes"),
-        }))),
+        "prepare" => Ok(Task::Feed(prepare_job(matches)?)),
         "update" => Ok(Task::Feed(FeedJob::Update(UpdateJob {
             waived: waived_of(matches),
         }))),
         _ => Ok(Task::Extract(named_job(name, matches)?)),
+    }
+}
+
+/// What `prepare` is asked for: the prepared extract, or a table of its winners.
+fn prepare_job(matches: &ArgMatches<'_>) -> Result<FeedJob, JobFault>
+    ensures { IsAskedFor IsFeedChosen (codes "prepare", rows_of (found_of matches.now)) result }
+{
+    let prepare = PrepareJob {
+        drop_clashes: has_flag(matches, "drop-clashes"),
+    };
+    if has_flag(matches, "winners") {
+        return Ok(FeedJob::Winners(WinnersJob {
+            prepare,
+            format: table_format_of(matches),
+        }));
+    }
+    match word_of(matches, "format") {
+        Some(_) => Err(JobFault::FormatAlone),
+        None => Ok(FeedJob::Prepare(prepare)),
     }
 }
 
