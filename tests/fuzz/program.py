@@ -19,6 +19,7 @@ def words_of(job: Job) -> List[str]:
         ("--to", job.last),
         ("--form", job.form),
         ("--format", job.format),
+        ("--calling-at", job.calling_at),
     ):
         words += [] if word is None else [option, word]
     words += ["--common"] if job.common else []
@@ -32,7 +33,7 @@ def words_of(job: Job) -> List[str]:
     words += ["--verbose"] if job.verbose else []
     return (
         words
-        + [word for word in (job.table, job.uid, job.day) if word is not None]
+        + [word for word in (job.table, job.uid, job.place, job.day) if word is not None]
         + list(job.files)
     )
 

@@ -424,6 +424,8 @@ FURTHER: Dict[str, Callable[[Job, Inputs, Answer], Iterable[Trial]]] = {
     "clashes": of_clashes,
     "table": of_table,
     "calendar": of_calendar,
+    "departures": of_view,
+    "arrivals": of_view,
     "prepare": of_prepared,
     "update": of_update,
 }

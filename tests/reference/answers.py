@@ -6,6 +6,7 @@ from datetime import date
 from typing import List, NamedTuple, Optional, Sequence, Set, Tuple, Union
 
 from . import published, tables, texts, verbose
+from .boards import board, board_table, place_of
 from .calendars import calendar
 from .dates import from_word
 from .explanation import explanation
@@ -23,8 +24,8 @@ Inputs = Sequence[Optional[bytes]]
 
 
 class Job(NamedTuple):
-    """What the words of a command ask for. Dates, a UID and the name of a table are words as they were given, or None where
-    there is none; without a form it is 2, without a format text, and common, all and others say whether such an option is
+    """What the words of a command ask for. Dates, a UID, places and the name of a table are words as they were given, or
+    None where there is none; without a form it is 2, without a format text, and common, all and others say whether such an option is
     there. Files and holidays are names; where there is no file, the command reads standard input, as it does where the name is
     `-`.
     """
@@ -33,6 +34,8 @@ class Job(NamedTuple):
     files: Tuple[str, ...] = ()
     day: Optional[str] = None
     uid: Optional[str] = None
+    place: Optional[str] = None
+    calling_at: Optional[str] = None
     first: Optional[str] = None
     last: Optional[str] = None
     form: Optional[str] = None
@@ -73,11 +76,14 @@ OPTIONS = {
     "clashes": {"first", "last", "format"},
     "table": {"first", "last", "form", "format"},
     "calendar": {"first", "last", "format"},
+    "departures": {"calling_at", "format"},
+    "arrivals": {"format"},
     "prepare": {"holidays", "drop_clashes", "winners", "format"},
     "update": {"lenient", "in_sequence"},
 }
 OF_TWO = ("compare", "diff")
 OF_FEEDS = ("prepare", "update")
+OF_BOARDS = ("departures", "arrivals")
 
 # How the fault is reported that two inputs are standard input.
 TWICE = {
@@ -110,7 +116,9 @@ def output(job: Job, inputs: Inputs) -> Tuple[List[str], int, List[str], List[st
     """
     if job.uid is not None and not UID.fullmatch(job.uid):
         raise Fault("bad UID", WORDS, word=job.uid)
+    place_of(job.place)
     day, asked = date_of(job.day), (date_of(job.first), date_of(job.last))
+    place_of(job.calling_at)
     if names_of(job).count("-") > 1:
         raise Fault(TWICE[job.command], WORDS)
     if job.command in OF_FEEDS:
@@ -245,6 +253,11 @@ def laid_out(job: Job, day: Optional[date], extracts: List[Extract]) -> Tuple[Li
     if job.command == "day":
         assert day is not None
         return (tables.day_table if as_table else texts.day_view)(meaning, day, job.stops), 0
+    if job.command in OF_BOARDS:
+        place, calling_at = place_of(job.place), place_of(job.calling_at)
+        assert day is not None and place is not None
+        arrivals = job.command == "arrivals"
+        return (board_table if as_table else board)(meaning, arrivals, day, place, calling_at), 0
     if job.command == "train":
         assert job.uid is not None
         return (tables.train_table if as_table else texts.train_view)(
@@ -285,6 +298,7 @@ def is_mistake(job: Job) -> bool:
         "lenient",
         "in_sequence",
         "winners",
+        "calling_at",
     )
     given = {name for name in names if getattr(job, name) not in (None, False)}
     taken = (
