@@ -1,7 +1,7 @@
 -- What decides among the schedules of two lists, of which the first go before the others.
 use Rattle.cif_feed.proofs.Names.{List, [], ap, arith, drop, get_or, inl, inr, length, map, map-append, refl, sym, take, take-append-drop, ℕ}
-use Rattle.cif_feed.proofs.Names.{⊎_elim, ◌++◌, ◌<◌, ◌↔◌, ◌∙◌, ◌∷◌, ◌≡◌, ◌≤◌, ◌⊎◌}
-use Rattle.cif_weeks.specs.{Window.IsWithin, Window.Window, declared.form.Run.Run}
+use Rattle.cif_feed.proofs.Names.{⊎_elim, ◌++◌, ◌<◌, ◌∙◌, ◌∷◌, ◌≡◌, ◌≤◌}
+use Rattle.cif_weeks.specs.{Window.Window, declared.form.Run.Run}
 use Rattle.cif_feed.specs.Steps.Deciding.{AreShown, DecidesAmong, IsFirstOf, ShowsOn}
 
 module _ (applies : ℕ → ℕ → Type 0) where

@@ -1,11 +1,11 @@
 -- Runs of form 3 that show which schedule decides on each day.
-use Rattle.cif_feed.proofs.Names.{All, AllPairs, Applies, Bool, Contains, List, None, Option, Some, Terms, [], ap, arith, get_or, inl, inr}
-use Rattle.cif_feed.proofs.Names.{length, map, max, refl, slice_get, subst, sym, ℕ, ⊎_elim, ◌++◌, ◌+◌, ◌<◌, ◌↔◌, ◌∙◌, ◌∷◌, ◌≡◌, ◌≤◌, ◌⊎◌}
+use Rattle.cif_feed.proofs.Names.{All, AllPairs, Contains, List, None, Option, Some, Terms, [], ap, arith, get_or}
+use Rattle.cif_feed.proofs.Names.{length, map, refl, slice_get, subst, sym, ℕ, ◌++◌, ◌+◌, ◌<◌, ◌↔◌, ◌∙◌, ◌∷◌, ◌≡◌}
 use Rattle.std.specs.List.{AllZip, range_with_len}
 use Rattle.std.proofs.lemmas.Slice.Zip.{AllZip-map}
 use Rattle.std.proofs.lemmas.Simd.{map-map}
 use Rattle.cif_calendar.specs.{Calendar.CalendarParts, Calendar.IsCalendar, Calendar.body_on, Clash.IsClear, Runs.BodyRuns}
-use Rattle.cif_calendar.specs.{Source.IsChosen, Source.body_at, Terms.AreLawful, Terms.SameRecords, Wins.Wins}
+use Rattle.cif_calendar.specs.{Source.IsChosen, Source.body_at, Terms.AreLawful, Terms.SameRecords}
 use Rattle.cif_calendar.proofs.{Meaning.Runs-unique, Positions.at-contains, Positions.contains-at, Sets.Runs-same, Sets.Wins-same}
 use Rattle.cif_calendar.proofs.KeyPositions.{range-whole}
 use Rattle.cif_weeks.proofs.JoinedLists.{zip-with}
@@ -15,8 +15,7 @@ use Rattle.cif_weeks.specs.declared.{form.Form.TheVariants.Three, form.Run.Run}
 use Rattle.cif_feed.specs.Steps.Deciding.{AreRunsAt, AreShown, IsRunAt, ShowsOn, as_record, as_records, source_in, sourced, terms_in, terms_of_dates}
 use Rattle.cif_feed.specs.declared.deciding.DecidingDates.{DecidingDates}
 use Rattle.std.proofs.{Common.map-id, lemmas.Option.slice_get-map}
-use Rattle.std.proofs.lemmas.List.FromFn.{length-range_with_len, map-range_with_len_more}
-use Rattle.cif_calendar.proofs.KeyPositions.{range-within}
+use Rattle.std.proofs.lemmas.List.FromFn.{map-range_with_len_more}
 use Rattle.cif_calendar.proofs.Names.{slice_get-get_or}
 use Rattle.cif_columns.proofs.Names.{slice_get_within}
 use Rattle.std.proofs.lemmas.List.Elements.{All-cons, All-nil}

@@ -1,12 +1,12 @@
 -- What decides among the schedules of a train, by the positions in their order.
-use Rattle.cif_feed.proofs.Names.{All, ArePositionsOf, Contains, Contains-cases, Contains-first, Contains-none, Contains-permutation}
+use Rattle.cif_feed.proofs.Names.{ArePositionsOf, Contains, Contains-cases, Contains-first, Contains-none, Contains-permutation}
 use Rattle.cif_feed.proofs.Names.{Contains-rest, IsPermutation-sym, List, None, Option, PublishedSchedule, Some, Terms, [], ap, arith, cases_lt}
-use Rattle.cif_feed.proofs.Names.{get_or, inl, inr, keyed, length, map, option_map, refl, same_Some, schedule_terms, slice_get, subst, suc, sym, ℕ}
-use Rattle.cif_feed.proofs.Names.{⊎_elim, ◌+◌, ◌<◌, ◌↔◌, ◌∙◌, ◌∷◌, ◌≡◌, ◌≤◌, ◌⊎◌}
+use Rattle.cif_feed.proofs.Names.{get_or, inl, inr, keyed, map, option_map, refl, same_Some, schedule_terms, slice_get, subst, suc, sym, ℕ}
+use Rattle.cif_feed.proofs.Names.{⊎_elim, ◌+◌, ◌<◌, ◌∙◌, ◌∷◌, ◌≡◌, ◌≤◌, ◌⊎◌}
 use Rattle.std.proofs.Common.{IsPermutation}
 use Rattle.std.proofs.lemmas.Option.{slice_get-map}
 use Rattle.cif_extract.specs.Body.{BodyLines}
-use Rattle.cif_feed.specs.Steps.Deciding.{AreInOrder, DecidesAmong, DecidesFor, GoesBefore, precedence_in, ranked_at}
+use Rattle.cif_feed.specs.Steps.Deciding.{AreInOrder, DecidesAmong, DecidesFor, GoesBefore, ranked_at}
 use Rattle.cif_feed.proofs.ListSteps.{Contains-from_map, Contains-map}
 
 -- ---- the order

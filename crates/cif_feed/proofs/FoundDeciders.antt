@@ -2,16 +2,16 @@
 use Rattle.cif_feed.proofs.Names.{Applies, AreClashDays, Bool, Contains, Contains-none, CountOn, HolidayCode, Holidays, IsClashDay, IsHolidayOf}
 use Rattle.cif_feed.proofs.Names.{IsStopAmong, IsTrue, List, Option, PublishedParts, PublishedSchedule, PublishedTerms, Some, Terms, [], ap, arith}
 use Rattle.cif_feed.proofs.Names.{ended, false, false≢true, inl, inr, last_day, last_is_day, max, prepared_last, published_schedule_terms}
-use Rattle.cif_feed.proofs.Names.{published_schedules, refl, same_Some, schedule_terms, slice_get, subst, sym, true, ℕ, ⊎_elim, ◌+◌, ◌<◌, ◌↔◌}
-use Rattle.cif_feed.proofs.Names.{◌∙◌, ◌≡◌, ◌≤◌, ◌⊎◌}
+use Rattle.cif_feed.proofs.Names.{published_schedules, refl, same_Some, schedule_terms, slice_get, subst, sym, true, ℕ, ⊎_elim, ◌+◌}
+use Rattle.cif_feed.proofs.Names.{◌∙◌, ◌≡◌, ◌≤◌}
 use Rattle.std.proofs.Math.Nat.{le-max_right}
 use Rattle.cif_calendar.proofs.Positions.{at-contains, contains-at}
 use Rattle.cif_calendar.specs.Wins.{Wins}
 use Rattle.cif_columns.specs.Stp.{letter}
 use Rattle.cif_extract.specs.Body.{BodyLines}
 use Rattle.cif_weeks.specs.Window.{IsWithin, window_from}
-use Rattle.cif_feed.specs.Steps.Deciding.{AppliesAt, DecidesFor, precedence_in, ranked_at}
-use Rattle.cif_feed.specs.Winners.{Decides, WinsAt}
+use Rattle.cif_feed.specs.Steps.Deciding.{AppliesAt, DecidesFor, precedence_in}
+use Rattle.cif_feed.specs.Winners.{Decides}
 use Rattle.cif_feed.proofs.ListSteps.{Contains-from_map, Contains-map}
 
 -- ---- open ends

@@ -39,6 +39,10 @@ pub mod DecidedTrains
 pub mod TrainRows
 pub mod FoundDeciders
 pub mod MadeWinners
+pub mod FirstPublishedClash
+pub mod ToldWinners
+pub mod WrittenWinners
+pub mod WinnersRead
 pub mod RankedPositions
 pub mod PartDates
 pub mod MergedDates

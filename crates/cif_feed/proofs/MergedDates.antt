@@ -1,11 +1,11 @@
 -- Dates of two lists of runs, of which the first go before the others.
 use Rattle.cif_feed.proofs.Names.{Applies, Bool, Contains, Contains-append_cases, Contains-append_left, Contains-append_right, IsClear, List}
 use Rattle.cif_feed.proofs.Names.{Some, Terms, ap, arith, false, inl, inr, map, map-append, map-map, max, refl, subst, sym, true, ℕ, ⊎_elim}
-use Rattle.cif_feed.proofs.Names.{Wins, ◌++◌, ◌<◌, ◌↔◌, ◌∙◌, ◌≡◌, ◌≤◌, ◌⊎◌}
+use Rattle.cif_feed.proofs.Names.{Wins, ◌++◌, ◌↔◌, ◌∙◌, ◌≡◌, ◌≤◌, ◌⊎◌}
 use Rattle.std.proofs.Math.Nat.{le-max_right}
 use Rattle.cif_calendar.specs.Runs.{BodyRuns}
 use Rattle.cif_columns.specs.Stp.{letter}
-use Rattle.cif_weeks.specs.{Permanent.Permanent, WhatRuns.HasBody, Window.IsWithin, Window.Window, declared.form.Run.Run}
+use Rattle.cif_weeks.specs.{Permanent.Permanent, Window.IsWithin, Window.Window, declared.form.Run.Run}
 use Rattle.cif_feed.specs.Steps.Deciding.{AreForm3, AreShown, IsFirstOf, ShowsOn, as_record, as_records, dates_with, letter_by, terms_in}
 use Rattle.cif_feed.specs.Steps.Deciding.{terms_of_dates}
 use Rattle.cif_feed.specs.declared.deciding.DecidingDates.{DecidingDates}

@@ -1,13 +1,13 @@
 -- The dates of the parts of one schedule, on which it alone can decide.
-use Rattle.cif_feed.proofs.Names.{All-contains, Applies, AreAdded, AreParts, Bool, Contains, Holidays, IsClear, IsHolidayOf, IsPart, IsStopAmong}
+use Rattle.cif_feed.proofs.Names.{All-contains, Applies, AreAdded, AreParts, Bool, Contains, Holidays, IsClear, IsPart, IsStopAmong}
 use Rattle.cif_feed.proofs.Names.{List, Part, PreparedRecord, PublishedSchedule, Schedule, Some, Terms, [], ap, arith, ended, holidays_of, inl}
-use Rattle.cif_feed.proofs.Names.{inr, map, map-map, part_entry, part_terms, prepared_last, published_schedule_terms, records_on, refl}
-use Rattle.cif_feed.proofs.Names.{same_Some, schedule_terms, slice_get, subst, sym, ℕ, ⊎_elim, ◌++◌, ◌<◌, ◌↔◌, ◌∙◌, ◌∷◌, ◌≡◌, ◌≤◌, ◌⊎◌}
+use Rattle.cif_feed.proofs.Names.{inr, map, map-map, part_entry, prepared_last, published_schedule_terms, records_on, refl}
+use Rattle.cif_feed.proofs.Names.{same_Some, schedule_terms, slice_get, subst, sym, ℕ, ⊎_elim, ◌↔◌, ◌∙◌, ◌∷◌, ◌≡◌, ◌≤◌, ◌⊎◌}
 use Rattle.cif_calendar.specs.Runs.{BodyRuns}
 use Rattle.cif_columns.specs.declared.stp.Stp.TheVariants.{P}
 use Rattle.cif_extract.specs.Body.{BodyLines}
-use Rattle.cif_weeks.specs.{Window.IsWithin, Window.Window, declared.form.Run.Run}
-use Rattle.cif_feed.specs.Steps.Deciding.{AppliesAt, AreShown, DecidesAmong, ShowsOn, dates_of_part, terms_in, terms_of_dates}
+use Rattle.cif_weeks.specs.{Window.Window, declared.form.Run.Run}
+use Rattle.cif_feed.specs.Steps.Deciding.{AppliesAt, AreShown, DecidesAmong, dates_of_part, terms_in, terms_of_dates}
 use Rattle.cif_feed.specs.declared.deciding.DecidingDates.{DecidingDates}
 use Rattle.cif_feed.proofs.{ListSteps.Contains-from_map, ListSteps.Contains-map, PreparedLists.holiday-days}
 use Rattle.cif_feed.proofs.PreparedRuns.{applies-part, part-applies}

@@ -1,5 +1,5 @@
 -- Positions with the precedence of their schedules.
-use Rattle.cif_feed.proofs.Names.{All, List, PublishedSchedule, [], get_or, length, map, take, ℕ, ◌++◌, ◌+◌, ◌<◌, ◌∷◌, ◌≡◌}
+use Rattle.cif_feed.proofs.Names.{All, List, PublishedSchedule, [], map, ℕ, ◌<◌, ◌∷◌}
 use Rattle.std.proofs.lemmas.List.Elements.{All-cons, All-head, All-nil, All-tail}
 use Rattle.cif_feed.specs.Steps.Deciding.{ranked_at}
 

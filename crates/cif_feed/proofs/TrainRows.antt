@@ -1,5 +1,5 @@
 -- The rows of one train more, which are the runs of what decides for it.
-use Rattle.cif_feed.proofs.Names.{All, AreOfFirstKey, Contains, Contains-get_or, Equal, List, PublishedSchedule, Some, Terms, [], ap, drop, get_or}
+use Rattle.cif_feed.proofs.Names.{All, AreOfFirstKey, Contains, Contains-get_or, Equal, List, PublishedSchedule, Terms, [], ap, drop, get_or}
 use Rattle.cif_feed.proofs.Names.{is_eq, keyed, length, map, map-append, nat_cmp, refl, schedule_terms, slice_cmp, slice_get, subst, sym, take, ℕ}
 use Rattle.cif_feed.proofs.Names.{◌++◌, ◌<◌, ◌↔◌, ◌∙◌, ◌∷◌, ◌≡◌}
 use Rattle.std.proofs.Common.{IsPermutation}
@@ -9,7 +9,7 @@ use Rattle.std.specs.Cmp.Lexicographic.{bytes_decides, texts_ties}
 use Rattle.cif_calendar.proofs.Positions.{contains-at}
 use Rattle.cif_calendar.specs.Keys.{of_key}
 use Rattle.cif_extract.specs.Body.{BodyLines}
-use Rattle.cif_weeks.specs.{Canonical.with_key, Permanent.Permanent, WhatRuns.HasBody, Window.IsWithin, Window.Window}
+use Rattle.cif_weeks.specs.{Canonical.with_key, Permanent.Permanent, Window.IsWithin, Window.Window}
 use Rattle.cif_weeks.specs.declared.form.Run.{Run}
 use Rattle.cif_feed.specs.Steps.Deciding.{AreDecided, AreInOrder, AreShown, DecidesAmong, DecidesFor, ShowsOn, as_record, as_records, ranked_at}
 use Rattle.cif_feed.specs.Steps.Deciding.{row_of, rows_of, uid_in}

@@ -41,6 +41,8 @@ pub mod UpdatesInTurn
 pub mod Waived
 pub mod Words
 pub mod Winners
+pub mod WinnersAnswer
 pub mod WrittenExtracts
 pub mod WrittenOver
 pub mod WrittenPrepared
+pub mod WrittenWinners

@@ -1,15 +1,17 @@
 -- Which published schedule decides on each day of each train.
-use Rattle.std.specs.Prelude.{Bool, IsTrue, List, None, Option, Some, [], codes, if◌then◌else◌, slice_get, ℕ, ◌++◌, ◌↔◌, ◌+◌, ◌∷◌, ◌≡◌, ◌≤◌}
+use Rattle.std.specs.Prelude.{Bool, IsTrue, List, None, Option, Some, [], codes, if◌then◌else◌, slice_get, ℕ, ◌++◌, ◌+◌, ◌<◌, ◌↔◌, ◌∷◌, ◌≡◌, ◌≤◌}
 use Rattle.std.specs.List.{flat_map}
 use Rattle.cif_columns.specs.{DayDigits.yymmdd_of, DaysRun.days_columns, Stp.letter}
 use Rattle.cif_rows.specs.Row.{Field, Value, all_named, heading_text, nothing, row_text, text}
 use Rattle.cif_rows.specs.declared.{format.Format.Format, shape.Shape.TheVariants.Date, shape.Shape.TheVariants.Whole}
-use Rattle.std.specs.{Cmp.Lexicographic.slice_cmp, Ordering.nat_cmp}
-use Rattle.cif_calendar.specs.{Entries.schedule_terms, Keys.of_key, Wins.Wins}
-use Rattle.cif_weeks.specs.{Canonical.AreCanonical, Permanent.Permanent, WhatRuns.HasBody, Window.IsWithin, Window.Window, Window.window_from}
+use Rattle.std.specs.{Cmp.Lexicographic.slice_cmp, Ordering.nat_cmp, declared.cmp.Ordering.Ordering, declared.cmp.Ordering.TheVariants.Less}
+use Rattle.cif_calendar.specs.{Clash.IsClash, Clash.IsClear, Entries.schedule_terms, Keys.of_key, Wins.Wins}
+use Rattle.cif_extract.specs.declared.{fault.Clash.Clash, fault.Clash.TheVariants.Association, fault.Clash.TheVariants.Train}
+use Rattle.cif_records.specs.{AssocKey.key_cmp, declared.association.AssocKey.AssocKey}
+use Rattle.cif_weeks.specs.{Canonical.AreCanonical, Permanent.Permanent, WhatRuns.HasBody, Window.IsWithin, Window.window_from}
 use Rattle.cif_weeks.specs.declared.form.Form.TheVariants.{Three}
-use Rattle.cif_feed.specs.Published.{CountOn, IsClashDay, IsHolidayOf}
-use Rattle.cif_feed.specs.PublishedParts.{PublishedParts, published_schedules}
+use Rattle.cif_feed.specs.Published.{CountOn, IsClashDay, IsHolidayOf, PublishedTerms}
+use Rattle.cif_feed.specs.PublishedParts.{PublishedParts, published_associations, published_schedules}
 use Rattle.cif_feed.specs.declared.{holidays.Holidays.Holidays, published_extract.PublishedSchedule.PublishedSchedule}
 
 -- The schedule at this position of the file wins for the train on day d, be it a cancellation: it is the train's, it applies as published,
@@ -33,6 +35,43 @@ pub record AreWinners (h : Holidays) (drops : Bool) (p : PublishedParts) (rows :
   pub canonical : AreCanonical (slice_cmp nat_cmp) Three (window_from p.header.first p.header.last) rows
   pub say : (train : List ℕ) (d position : ℕ) → IsWithin (window_from p.header.first p.header.last) d
       → Decides h drops p train d position ↔ HasBody (of_key rows train) d position
+
+-- ---- clashes
+
+-- the key is clear on each day from `first` to `last`, by the published records that count
+abbrev pub IsClearAsPublished : {K B : Type 0} → Holidays → List (K × PublishedTerms B) → ℕ → ℕ → K → Type 0
+IsClearAsPublished h entries first last k = (d : ℕ) → first ≤ d → d ≤ last → IsClear (CountOn h entries k d) d
+
+-- By the published records that count, the first clash from `first` to `last` is that of key k on day d: each key before k is clear on all
+-- these days, and k on those before d. `cmp` is the order of the keys.
+pub record IsFirstAsPublished {K B : Type 0} (cmp : K → K → Ordering) (h : Holidays) (entries : List (K × PublishedTerms B))
+    (first last : ℕ) (k : K) (d : ℕ) : Type 0 where
+  pub from : first ≤ d
+  pub upto : d ≤ last
+  pub clash : IsClash (CountOn h entries k d) d
+  pub clear_before : (e : ℕ) → first ≤ e → e < d → IsClear (CountOn h entries k e) e
+  pub keys_before : (j : K) → cmp j k ≡ Less → IsClearAsPublished h entries first last j
+
+-- all associations are clear in the window of the published extract, and all trains
+abbrev pub AreAssociationsClear : Holidays → PublishedParts → Type 0
+AreAssociationsClear h p =
+    (key : AssocKey) → IsClearAsPublished h (published_associations p.associations) p.header.first p.header.last key
+
+abbrev pub AreTrainsClear : Holidays → PublishedParts → Type 0
+AreTrainsClear h p = (uid : List ℕ) → IsClearAsPublished h (published_schedules p.schedules) p.header.first p.header.last uid
+
+-- The first clash of a published extract in its window: that of associations, by the least key and its first day, or, where these are
+-- clear, that of trains.
+abbrev pub IsFirstPublishedClash : Holidays → PublishedParts → Clash → Type 0
+IsFirstPublishedClash h p (Association key day) =
+    IsFirstAsPublished key_cmp h (published_associations p.associations) p.header.first p.header.last key day
+IsFirstPublishedClash h p (Train uid day) = AreAssociationsClear h p
+    × IsFirstAsPublished (slice_cmp nat_cmp) h (published_schedules p.schedules) p.header.first p.header.last uid day
+
+-- there is none
+pub record HasNoClash (h : Holidays) (p : PublishedParts) : Type 0 where
+  pub associations : AreAssociationsClear h p
+  pub trains : AreTrainsClear h p
 
 -- ---- the table
 

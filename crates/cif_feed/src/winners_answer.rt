@@ -1,7 +1,15 @@
 //! What `prepare --winners` answers, for any devices: which published schedule decides on each date of each train.
-ghost use Rattle.std.specs.Prelude.{◌≡◌, ◌<◌, ◌≤◌, ◌∷◌, [], All, IfNone, IfOk, IfSome, List, false, length};
-ghost use Rattle.cif_feed.specs.{PublishedParts.published_parts, Steps.Deciding.rows_of, Winners.AreWinners};
+ghost use Rattle.std.specs.Prelude.{◌≡◌, ◌<◌, ◌≤◌, ◌∷◌, [], All, IfErr, IfNone, IfOk, IfSome, List, false, length, true, ℕ};
+ghost use Rattle.std.specs.{BTreeMap.get, Ordering.nat_cmp};
+ghost use Rattle.cif_feed.specs.{PublishedParts.published_parts, Steps.Deciding.rows_of, Steps.Dropping.AreCounted};
+ghost use Rattle.cif_feed.specs.FeedAnswer.{FeedAnswers, IsHandedOn, IsReported, OfHolidays, prepare_reported};
+ghost use Rattle.cif_feed.specs.WinnersAnswer.{AreWinnersInTurn, IsWinnersAnswer, IsWinnersRefusal};
+ghost use Rattle.cif_feed.specs.WrittenPrepared.{FeedWrites};
+ghost use Rattle.cif_feed.specs.WrittenWinners.{AreWinnersAs, HasNoWinners, ShowsWinners, WritesWinners, winning};
+ghost use Rattle.cif_columns.specs.Source.{reader_of};
+ghost use Rattle.cif_extract.specs.ReadCall.{IsResultOf};
 ghost use Rattle.cif_feed.specs.declared.dropped.DroppedKey.{DroppedKey};
+ghost use Rattle.cif_records.specs.AssocKey.{key_cmp};
 ghost use Rattle.cif_columns.specs.declared.{line_reader.TheConstants.MAX_LINES};
 
 use crate::deciding::Deciders;
@@ -28,7 +36,16 @@ pub fn answer_winners<R: ReadDevice, W: WriteDevice>(
     drop_clashes: bool,
     format: Format,
     kept: &mut KeptPrepare,
-) -> Result<Dropped, FeedFault> {
+) -> Result<Dropped, FeedFault>
+    ensures answer { FeedAnswers W.contents W.write_errors (prepare_reported kept.new) (λ text reported. OfHolidays R.remaining
+        (λ given bytes. IsReported (IsWinnersAnswer drop_clashes format given bytes text) reported)
+        holidays.old source.old) sink.old sink.new result }
+    ensures fault { OfHolidays R.remaining (λ given bytes. IfErr result (IsWinnersRefusal drop_clashes given bytes))
+        holidays.old source.old }
+    ensures reads { AreWinnersInTurn R.remaining R.read_errors drop_clashes
+        holidays.old holidays.new source.old source.new result }
+    ensures handed_on { IsHandedOn W.holds_nothing sink.new result }
+{
     let read = read_holidays(alloc, holidays)?;
     let holidays = kept.holidays.insert(read);
     let preparation = Preparation {
@@ -57,6 +74,13 @@ pub fn write_winners<R: ReadDevice, W: WriteDevice>(
     kept: &mut Option<PublishedExtract>,
 ) -> Result<Dropped, FeedFault>
     requires within { max_lines ≤ MAX_LINES }
+    ensures winners { (text : List ℕ)
+        × FeedWrites W.contents W.write_errors text sink.old sink.new result
+        × IfSome (R.remaining (reader_of source.old)) (λ bytes. ShowsWinners preparation.entry.holidays.now
+        preparation.entry.drops_clashes format max_lines bytes text result) }
+    ensures reads { IsResultOf R.remaining R.read_errors
+        (winning preparation.entry.holidays.now preparation.entry.drops_clashes max_lines kept.new)
+        source.old source.new result }
 {
     let codes = preparation.holidays.codes();
     let extract = PublishedExtract::read(alloc, source, max_lines, codes)?;
@@ -73,7 +97,10 @@ impl PublishedExtract {
         preparation: Preparation<'_>,
         format: Format,
         sink: &mut Sink<W>,
-    ) -> Result<Dropped, FeedFault> {
+    ) -> Result<Dropped, FeedFault>
+        ensures { WritesWinners W.contents W.write_errors preparation.entry.holidays.now preparation.entry.drops_clashes format
+            (published_parts self.now) sink.old sink.new result }
+    {
         let (runs, dropped) = self.winners(alloc, preparation)?;
         append_table(self.schedules.as_slice(), runs.as_slice(), format, sink);
         if sink.failed() {
@@ -89,8 +116,10 @@ impl PublishedExtract {
         preparation: Preparation<'_>,
     ) -> Result<(Vec<Run>, Dropped), FeedFault>
         ensures within { IfOk result (λ made. All (λ run. run.source < length self.now.schedules.items) made.0.items) }
-        ensures winners { IfOk result (λ made. AreWinners preparation.entry.holidays.now preparation.entry.drops_clashes
-            (published_parts self.now) (rows_of self.now.schedules.items made.0.items)) }
+        ensures winners { IfOk result (λ made. AreWinnersAs preparation.entry.holidays.now preparation.entry.drops_clashes
+            (published_parts self.now) (rows_of self.now.schedules.items made.0.items) made.1) }
+        ensures fault { IfErr result (HasNoWinners preparation.entry.holidays.now preparation.entry.drops_clashes
+            (published_parts self.now)) }
     {
         let holidays = preparation.holidays;
         let mut keys = Vec::new(alloc);
@@ -117,7 +146,11 @@ impl PublishedExtract {
         preparation: Preparation<'_>,
         associations: &ClashDates<AssocKey>,
         trains: &ClashDates<u64>,
-    ) -> usize {
+    ) -> usize
+        ensures none { preparation.entry.drops_clashes ≡ false → result ≡ 0 }
+        ensures counted { preparation.entry.drops_clashes ≡ true → AreCounted preparation.entry.holidays.now (published_parts self.now)
+            (get key_cmp associations.now) (get nat_cmp trains.now) result }
+    {
         if preparation.drops_clashes {
             let holidays = preparation.holidays;
             self.count_clashing_associations(holidays, associations)

@@ -1,5 +1,5 @@
 -- One schedule decides by itself (`one-position`); of two lists the first goes before the other (`both-shown`).
-use Rattle.cif_feed.proofs.Names.{List, [], get_or, length, map, subst, ℕ, ⊎_elim, ◌∷◌}
+use Rattle.cif_feed.proofs.Names.{List, length, map, subst, ℕ, ⊎_elim}
 use Rattle.std.proofs.lemmas.Result.{IfOk-weaker}
 use Rattle.cif_weeks.specs.{Window.window_days, declared.form.Run.Run}
 use Rattle.cif_feed.specs.Steps.Deciding.{AppliesAt, AreShown, DecidesAmong, IsFirstOf, ShowsOn}

@@ -3,7 +3,6 @@ use Rattle.cif_feed.proofs.Names.{AreAdded, Contains, List, PreparedRecord, Sche
 use Rattle.cif_feed.proofs.Names.{schedule_terms, length, slice_get_within, subst, sym, take, take_all, ℕ, ◌++◌, ◌<◌, ◌∙◌, ◌∷◌, ◌≡◌, ◌⊎◌}
 use Rattle.std.proofs.lemmas.Result.{IfOk-weaker}
 use Rattle.cif_calendar.specs.Runs.{BodyRuns}
-use Rattle.cif_calendar.proofs.Names.{slice_get-get_or}
 use Rattle.cif_extract.specs.Body.{BodyLines}
 use Rattle.cif_weeks.specs.Window.{window_days}
 use Rattle.cif_feed.specs.Steps.Deciding.{AreShown, dates_of_part, terms_in}

@@ -1,10 +1,9 @@
 -- The entries are the dates of both lists, and the first go before the others (`merged-clear`, `merged-shown`).
-use Rattle.cif_feed.proofs.Names.{List, ap, map, map_more, subst, sym, take_all, true, false, ◌++◌, ◌∙◌, ◌≡◌}
+use Rattle.cif_feed.proofs.Names.{List, ap, map, take_all, true, false, ◌++◌, ◌∙◌, ◌≡◌}
 use Rattle.std.proofs.lemmas.Result.{IfOk-weaker}
 use Rattle.cif_weeks.specs.{Window.window_days, declared.form.Run.Run}
 use Rattle.cif_feed.specs.Steps.Deciding.{dates_with}
-use Rattle.cif_feed.specs.declared.deciding.DecidingDates.{DecidingDates}
-use Rattle.cif_feed.proofs.MergedDates.{entries-of, merged-clear, merged-shown}
+use Rattle.cif_feed.proofs.MergedDates.{merged-clear, merged-shown}
 use Rattle.cif_feed.proofs.deciding.merged.Goals as goal
 use Rattle.cif_feed.proofs.deciding.merged.Goals.{After-as_slice}
 

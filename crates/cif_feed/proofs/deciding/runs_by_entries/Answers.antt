@@ -1,15 +1,14 @@
 -- The positions are those of all entries: so the runs are those of few entries, or of their calendar (`few-runs`, `calendar-runs`).
-use Rattle.cif_feed.proofs.Names.{All, List, ap, length, length-map, subst, sym, ℕ, ◌<◌, ◌∙◌, ◌≡◌}
+use Rattle.cif_feed.proofs.Names.{All, List, length, length-map, subst, sym, ℕ, ◌<◌, ◌∙◌, ◌≡◌}
 use Rattle.std.specs.List.{range_with_len}
 use Rattle.std.proofs.lemmas.Result.{IfOk-weaker}
 use Rattle.cif_calendar.proofs.{KeyPositions.range-within, Positions.AreLawful-chosen}
 use Rattle.cif_calendar.specs.{Calendar.IsCalendar, Calendar.IsFault, Clash.IsFirstClash, Source.IsChosen}
-use Rattle.cif_weeks.proofs.CalendarSources.{calendar_sources}
 use Rattle.cif_weeks.specs.{MemberRuns.AreRunsOfMembers, Window.window_days, declared.form.Form.TheVariants.Three}
 use Rattle.cif_feed.specs.Laws.Deciding.{cancelled_dates}
 use Rattle.cif_feed.specs.Steps.Deciding.{terms_in, terms_of_dates}
 use Rattle.cif_feed.specs.declared.deciding.DecidingDates.{DecidingDates}
-use Rattle.cif_feed.proofs.DecidingRuns.{all-chosen, calendar-runs, clear-unclashed, few-runs}
+use Rattle.cif_feed.proofs.DecidingRuns.{calendar-runs, clear-unclashed, few-runs}
 use Rattle.cif_feed.proofs.deciding.runs_by_entries.Goals as goal
 use Rattle.cif_feed.proofs.deciding.runs_by_entries.Goals.{After-as_slice-members}
 

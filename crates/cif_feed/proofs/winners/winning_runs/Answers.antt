@@ -1,6 +1,6 @@
 -- Key by key: the first positions are those of a key, whose runs go behind.
-use Rattle.cif_feed.proofs.Names.{All, All-append, All-drop, All-take, List, PublishedSchedule, all-within, arith, keyed, length, nat_cmp}
-use Rattle.cif_feed.proofs.Names.{schedule_terms, slice_cmp, ℕ, ◌<◌, ◌≡◌}
+use Rattle.cif_feed.proofs.Names.{All-append, All-drop, All-take, List, PublishedSchedule, all-within, arith, keyed, length, nat_cmp}
+use Rattle.cif_feed.proofs.Names.{schedule_terms, slice_cmp, ℕ, ◌<◌}
 use Rattle.cif_feed.proofs.Names.{eqb-true, nil_from_length, subst, sym}
 use Rattle.cif_feed.proofs.TrainRows.{AreMade, all-trains, next-train, no-train}
 use Rattle.cif_feed.specs.Steps.Deciding.{AppliesAt, rows_of}
