@@ -11,7 +11,7 @@ _cif_offer() {
 }
 
 _cif() {
-    local IFS=$' \t\n' commands='normalise check compare diff day train explain clashes table calendar prepare update help'
+    local IFS=$' \t\n' commands='normalise check compare diff day train explain clashes table calendar departures arrivals prepare update help'
     local command='' options='' places=0 given=' ' front='' written=${COMP_WORDS[COMP_CWORD]}
     # the option whose value comes next, and whether -- has ended the options
     local awaited='' ended='' word i
@@ -27,7 +27,7 @@ _cif() {
         elif [[ -z $ended && $word == -?* ]]; then
             given+="${word%%=*} "
             case $word in
-            --from | --to | --form | --format | --holidays) awaited=$word ;;
+            --from | --to | --form | --format | --holidays | --calling-at) awaited=$word ;;
             esac
         elif [[ -z $command ]]; then
             command=$word
@@ -48,7 +48,7 @@ _cif() {
         --form) _cif_offer '1 2 3' ;;
         --format)
             case $command in
-            table) _cif_offer 'tsv json' ;;
+            table | prepare) _cif_offer 'tsv json' ;;
             *) _cif_offer 'text tsv json' ;;
             esac
             ;;
@@ -68,7 +68,9 @@ _cif() {
         clashes | calendar) options='-v --verbose --from --to --format -h --help' ;;
         day) options='-v --verbose --stops --format -h --help' ;;
         explain) options='-v --verbose --format -h --help' ;;
-        prepare) options='-v --verbose --holidays --drop-clashes -h --help' ;;
+        departures) options='-v --verbose --calling-at --format -h --help' ;;
+        arrivals) options='-v --verbose --format -h --help' ;;
+        prepare) options='-v --verbose --holidays --drop-clashes --winners --format -h --help' ;;
         update) options='-v --verbose --lenient --in-sequence -h --help' ;;
         esac
         _cif_offer "$options"
@@ -77,7 +79,7 @@ _cif() {
     case $command:$places in
     :0 | help:0) _cif_offer "$commands" ;;
     normalise:0 | check:0 | compare:[01] | diff:[01]) compopt -o default ;;
-    day:1 | train:1 | explain:2 | clashes:0) compopt -o default ;;
+    day:1 | train:1 | explain:2 | departures:2 | arrivals:2 | clashes:0) compopt -o default ;;
     table:0) _cif_offer 'header tiplocs associations schedules calls changes public' ;;
     table:1 | calendar:1 | prepare:0 | update:*) compopt -o default ;;
     esac

@@ -53,6 +53,8 @@ complete -c cif -n __cif_without_command -a explain -d 'Say why a train runs on 
 complete -c cif -n __cif_without_command -a clashes -d 'List the clashes of an extract'
 complete -c cif -n __cif_without_command -a table -d 'Write a table of the canonical extract'
 complete -c cif -n __cif_without_command -a calendar -d 'Show on which dates a train runs'
+complete -c cif -n __cif_without_command -a departures -d 'List what leaves from a place on a date'
+complete -c cif -n __cif_without_command -a arrivals -d 'List what arrives at a place on a date'
 complete -c cif -n __cif_without_command -a prepare -d 'Make an extract of a published one'
 complete -c cif -n __cif_without_command -a update -d 'Apply update extracts to a full extract'
 complete -c cif -n __cif_without_command -a help -d 'Print the help of the program or of a command'
@@ -63,20 +65,23 @@ complete -c cif -n '__cif_in normalise check compare diff train clashes table ca
 complete -c cif -n '__cif_in normalise check compare diff train clashes table calendar' -l to -x -d 'Last date of the window, YYMMDD or YYYY-MM-DD'
 complete -c cif -n '__cif_in compare diff' -l common -d 'Use the common window'
 complete -c cif -n '__cif_in day train' -l stops -d 'List the calls of each train too'
-complete -c cif -n '__cif_in diff day train explain clashes calendar' -l format -x -a 'text tsv json' -d 'Layout'
+complete -c cif -n '__cif_in diff day train explain clashes calendar departures arrivals' -l format -x -a 'text tsv json' -d 'Layout'
 complete -c cif -n '__cif_in table' -l format -x -a 'tsv json' -d 'Layout'
+complete -c cif -n '__cif_in prepare' -l format -x -a 'tsv json' -d 'Layout of --winners'
+complete -c cif -n '__cif_in departures' -l calling-at -x -d 'Only trains that call at this place later'
 complete -c cif -n '__cif_in check' -l all -d 'Judge each line by itself, and count the reasons'
 complete -c cif -n '__cif_in normalise check train table' -l form -x -a '1 2 3' -d 'Form of records'
 complete -c cif -n '__cif_in prepare' -l holidays -r -F -d 'Dates of the holiday codes'
 complete -c cif -n '__cif_in prepare' -l drop-clashes -d 'Leave out what has a clash, on its dates'
+complete -c cif -n '__cif_in prepare' -l winners -d 'Write which published record decides each date'
 complete -c cif -n '__cif_in update' -l lenient -d 'Go on if an update or a line of it does not fit'
 complete -c cif -n '__cif_in update' -l in-sequence -d 'With --lenient, refuse an update that does not follow'
-complete -c cif -n '__cif_in normalise check compare diff day train explain clashes table calendar prepare update' -s v -l verbose -d 'Say more on standard error'
-complete -c cif -n '__cif_in normalise check compare diff day train explain clashes table calendar prepare update' -s h -l help -d 'Print help'
+complete -c cif -n '__cif_in normalise check compare diff day train explain clashes table calendar departures arrivals prepare update' -s v -l verbose -d 'Say more on standard error'
+complete -c cif -n '__cif_in normalise check compare diff day train explain clashes table calendar departures arrivals prepare update' -s h -l help -d 'Print help'
 
 complete -c cif -n '__cif_at 0 normalise check compare diff clashes prepare' -F
 complete -c cif -n '__cif_at 0 table' -a 'header tiplocs associations schedules calls changes public'
 complete -c cif -n '__cif_at 1 compare diff day train table calendar' -F
-complete -c cif -n '__cif_at 2 explain' -F
+complete -c cif -n '__cif_at 2 explain departures arrivals' -F
 complete -c cif -n '__cif_from 0 update' -F
-complete -c cif -n '__cif_at 0 help' -a 'normalise check compare diff day train explain clashes table calendar prepare update help'
+complete -c cif -n '__cif_at 0 help' -a 'normalise check compare diff day train explain clashes table calendar departures arrivals prepare update help'

@@ -19,6 +19,7 @@ def words_of(job: Job) -> List[str]:
         ("--to", job.last),
         ("--form", job.form),
         ("--format", job.format),
+        ("--calling-at", job.calling_at),
     ):
         words += [] if word is None else [option, word]
     words += ["--common"] if job.common else []
@@ -26,12 +27,13 @@ def words_of(job: Job) -> List[str]:
     words += ["--all"] if job.all else []
     words += [] if job.holidays is None else ["--holidays", job.holidays]
     words += ["--drop-clashes"] if job.drop_clashes else []
+    words += ["--winners"] if job.winners else []
     words += ["--lenient"] if job.lenient else []
     words += ["--in-sequence"] if job.in_sequence else []
     words += ["--verbose"] if job.verbose else []
     return (
         words
-        + [word for word in (job.table, job.uid, job.day) if word is not None]
+        + [word for word in (job.table, job.uid, job.place, job.day) if word is not None]
         + list(job.files)
     )
 

@@ -313,6 +313,8 @@ def of_calendar(job: Job, inputs: Inputs, want: Answer) -> Iterator[Trial]:
 
 def of_prepared(job: Job, inputs: Inputs, want: Answer) -> Iterator[Trial]:
     """What is prepared is an extract of the profile, of which prepare writes the same again, and has no clash if they are dropped."""
+    if job.winners:
+        return
     again = job._replace(files=(), holidays=None)
     yield Trial("the output again", again, [want.stdout], want._replace(stderr=b""))
     if job.drop_clashes:
@@ -422,6 +424,8 @@ FURTHER: Dict[str, Callable[[Job, Inputs, Answer], Iterable[Trial]]] = {
     "clashes": of_clashes,
     "table": of_table,
     "calendar": of_calendar,
+    "departures": of_view,
+    "arrivals": of_view,
     "prepare": of_prepared,
     "update": of_update,
 }

@@ -1,12 +1,13 @@
 """Cases: a job, its inputs, and the timetable from which the first of them was made."""
 from __future__ import annotations
 
+import re
 from random import Random
 from typing import List, NamedTuple, Optional, Sequence, Tuple
 
-from reference.answers import OF_FEEDS, OF_TWO, OPTIONS, Inputs, Job
+from reference.answers import OF_BOARDS, OF_FEEDS, OF_TWO, OPTIONS, Inputs, Job
 from reference.dates import DAY, Window, from_yymmdd, yymmdd
-from reference.tables import TABLES
+from reference.tables import CALLS, TABLES
 
 from .damage import damaged
 from .derived import changed_once, said_otherwise, with_other_bodies
@@ -40,7 +41,7 @@ COMMANDS |= {command: 13 for command in OF_FEEDS}
 
 # Whether the program has the tables of the reference: those of whole extracts, calendars, and those of the other commands.
 HAS_TABLES = True
-COMMANDS |= {"table": 14, "calendar": 7} if HAS_TABLES else {}
+COMMANDS |= {"table": 14, "calendar": 7, "departures": 16, "arrivals": 8} if HAS_TABLES else {}
 
 # Of more bytes of standard input, whether the first lines are still known at the end depends on the reads.
 ALWAYS_KEPT = 32_768
@@ -81,6 +82,8 @@ BAD_UID_WORDS = (
     "\x1bC0012~\\",
 )
 
+BAD_PLACE_WORDS = ("", "TOOLONGX", "A B", "EUS\t", "\u00e9", "EUS\x7f", "E\n")
+
 # How likely a job has dates, and how likely each fault of a job or its inputs is: where most cases are to be accepted, and
 # where many are to have several faults, which show the fault that comes first.
 FAULTS: Tuple[str, ...] = (
@@ -90,6 +93,7 @@ FAULTS: Tuple[str, ...] = (
     "outside",
     "reversed",
     "no UID",
+    "no place",
     "no file",
     "damage",
     "another window",
@@ -98,10 +102,12 @@ FAULTS += ("no code", "no holidays", "stray line", "astray", "wrong header")
 SELDOM = dict(
     zip(
         FAULTS,
-        (0.4, 0.005, 0.02, 0.04, 0.04, 0.04, 0.02, 0.15, 0.08, 0.06, 0.05, 0.04, 0.1, 0.01),
+        (0.4, 0.005, 0.02, 0.04, 0.04, 0.04, 0.04, 0.02, 0.15, 0.08, 0.06, 0.05, 0.04, 0.1, 0.01),
     )
 )
-OFTEN = dict(zip(FAULTS, (0.8, 0.05, 0.2, 0.3, 0.4, 0.4, 0.1, 0.3, 0.4, 0.3, 0.3, 0.3, 0.4, 0.2)))
+OFTEN = dict(
+    zip(FAULTS, (0.8, 0.05, 0.2, 0.3, 0.4, 0.4, 0.3, 0.1, 0.3, 0.4, 0.3, 0.3, 0.3, 0.4, 0.2))
+)
 # Where it isn't there, most extracts have no clash.
 OFTEN["clash"] = 1
 
@@ -156,6 +162,46 @@ def uid_word(rng: Random, records: List[Record], odds: Odds) -> str:
     if records and rng.random() < 0.95:
         return uid_of(rng, rng.choice(records))
     return rng.choice(UIDS)
+
+
+def public_places(record: Record) -> List[str]:
+    """The locations at which a train of this record calls in public, if it can be a word."""
+    calls = [dict(fields) for kind, fields in record.body.lines if kind in CALLS]
+    return [
+        call["location"].strip(" ")
+        for call in calls
+        if any(
+            call.get(name, "    ").strip(" 0") for name in ("public_arrival", "public_departure")
+        )
+    ]
+
+
+def place_word(rng: Random, timetable: Timetable, places: List[str], odds: Odds) -> str:
+    """One of these places, or a CRS code of the extract, in capitals or not; or a word that is no place."""
+    if rng.random() < odds["no place"]:
+        return rng.choice(BAD_PLACE_WORDS)
+    codes = [tiploc[51:54] for tiploc in timetable.tiplocs] if rng.random() < 0.3 else []
+    known = [word for word in places + codes if re.fullmatch("[!-,.-~][!-~]*", word)]
+    word = rng.choice(known if known and rng.random() < 0.95 else ["NOWHERE", "ABD", "~"])
+    return word.lower() if rng.random() < 0.2 else word
+
+
+def with_board(rng: Random, job: Job, timetable: Timetable, options: bool, odds: Odds) -> Job:
+    """The job with a place and a date: often those of a call of a train that runs on it, or of one that ran the day before."""
+    first, last = timetable.window
+    days = [(one, max(one.first, first) + rng.randrange(14) * DAY) for one in timetable.schedules]
+    apply = [(one, day) for one, day in days if day <= last and one.applies(day)]
+    places = [place for one in timetable.schedules for place in public_places(one)]
+    day = date_word(rng, timetable.window, odds)
+    found = [(place, on) for one, on in apply for place in public_places(one)]
+    if found and rng.random() < 0.8:
+        place, on = rng.choice(found)
+        places, day = [place], yymmdd(on + rng.choice([0, 0, 0, 1]) * DAY)
+    job = job._replace(place=place_word(rng, timetable, places, odds), day=day)
+    if options and job.command == "departures" and rng.random() < 0.3:
+        places = [place for one in timetable.schedules for place in public_places(one)]
+        job = job._replace(calling_at=place_word(rng, timetable, places, odds))
+    return job
 
 
 def uid_and_day(rng: Random, timetable: Timetable, odds: Odds) -> Tuple[str, str]:
@@ -250,6 +296,8 @@ def some_job(rng: Random, command: str, timetable: Timetable, options: bool, odd
         job = job._replace(
             table=rng.choice(NO_TABLES if rng.random() < odds["mistake"] else list(TABLES))
         )
+    if command in OF_BOARDS:
+        job = with_board(rng, job, timetable, options, odds)
     if command == "calendar":
         job = job._replace(uid=uid_word(rng, timetable.schedules, odds))
     return with_long_dates(rng, with_options(rng, job, timetable, odds) if options else job)
@@ -269,6 +317,8 @@ def with_options(rng: Random, job: Job, timetable: Timetable, odds: Odds) -> Job
         job = job._replace(stops=rng.random() < 0.5)
     if "form" in taken:
         job = job._replace(form=rng.choice(FORMS if rng.random() > odds["mistake"] else NO_FORMS))
+    if "calling_at" in taken and job.command not in OF_BOARDS:
+        job = job._replace(calling_at=rng.choice([None, None, "EUS"]))
     if "all" in taken:
         job = job._replace(all=rng.random() < 0.5)
     if "format" in taken and HAS_TABLES:
@@ -294,6 +344,7 @@ def small_jobs(timetable: Timetable) -> List[OfSmall]:
         Job("clashes"),
         Job("table", table="calls"),
         Job("calendar", uid=uid),
+        Job("departures", place="DUNDEE", day=day),
     ]
     found = [
         OfSmall(job._replace(files=files), 0) for job in jobs for files in ((), ("extract.cif",))

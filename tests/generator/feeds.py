@@ -75,6 +75,8 @@ def some_prepare(rng: Random, odds: Odds) -> Tuple[Job, List[bytes]]:
         with_clashes(rng, timetable)
     lines = published(rng, timetable.lines(), odds)
     job = Job("prepare", rng.choice([(), ("extract.cif",), ("-",)]), drop_clashes=drop_clashes)
+    if rng.random() < 0.4:
+        job = job._replace(winners=True, format=rng.choice([None, "tsv", "json"]))
     inputs = [spelled(rng, lines, some_habits(rng))]
     coded = any(line[:2] == "BS" and field_text(line, "bank_holiday") != " " for line in lines)
     if rng.random() < (1 - odds["no code"] if coded else 0.4):

@@ -6,6 +6,7 @@ from datetime import date
 from typing import List, NamedTuple, Optional, Sequence, Set, Tuple, Union
 
 from . import published, tables, texts, verbose
+from .boards import board, board_table, place_of
 from .calendars import calendar
 from .dates import from_word
 from .explanation import explanation
@@ -16,14 +17,15 @@ from .json_rows import rows_of
 from .meaning import Meaning, all_clashes, clash_dates, first_difference
 from .reasons import all_reasons, listed
 from .verbose import Input
+from .winners import winner_table
 
 # The bytes of each input, or None where it can't be read.
 Inputs = Sequence[Optional[bytes]]
 
 
 class Job(NamedTuple):
-    """What the words of a command ask for. Dates, a UID and the name of a table are words as they were given, or None where
-    there is none; without a form it is 2, without a format text, and common, all and others say whether such an option is
+    """What the words of a command ask for. Dates, a UID, places and the name of a table are words as they were given, or
+    None where there is none; without a form it is 2, without a format text, and common, all and others say whether such an option is
     there. Files and holidays are names; where there is no file, the command reads standard input, as it does where the name is
     `-`.
     """
@@ -32,6 +34,8 @@ class Job(NamedTuple):
     files: Tuple[str, ...] = ()
     day: Optional[str] = None
     uid: Optional[str] = None
+    place: Optional[str] = None
+    calling_at: Optional[str] = None
     first: Optional[str] = None
     last: Optional[str] = None
     form: Optional[str] = None
@@ -44,6 +48,7 @@ class Job(NamedTuple):
     drop_clashes: bool = False
     lenient: bool = False
     in_sequence: bool = False
+    winners: bool = False
     verbose: bool = False
 
 
@@ -71,11 +76,14 @@ OPTIONS = {
     "clashes": {"first", "last", "format"},
     "table": {"first", "last", "form", "format"},
     "calendar": {"first", "last", "format"},
-    "prepare": {"holidays", "drop_clashes"},
+    "departures": {"calling_at", "format"},
+    "arrivals": {"format"},
+    "prepare": {"holidays", "drop_clashes", "winners", "format"},
     "update": {"lenient", "in_sequence"},
 }
 OF_TWO = ("compare", "diff")
 OF_FEEDS = ("prepare", "update")
+OF_BOARDS = ("departures", "arrivals")
 
 # How the fault is reported that two inputs are standard input.
 TWICE = {
@@ -108,7 +116,9 @@ def output(job: Job, inputs: Inputs) -> Tuple[List[str], int, List[str], List[st
     """
     if job.uid is not None and not UID.fullmatch(job.uid):
         raise Fault("bad UID", WORDS, word=job.uid)
+    place_of(job.place)
     day, asked = date_of(job.day), (date_of(job.first), date_of(job.last))
+    place_of(job.calling_at)
     if names_of(job).count("-") > 1:
         raise Fault(TWICE[job.command], WORDS)
     if job.command in OF_FEEDS:
@@ -128,8 +138,8 @@ def shown(job: Job, inputs: Inputs) -> List[Input]:
 
 def of_prepare(job: Job, inputs: List[Input]) -> Tuple[List[str], int, List[str], List[str]]:
     """
-    The lines of the prepared extract, a line for each code whose holidays don't reach the window, and one for each key that is
-    dropped.
+    The lines of the prepared extract, or of the table of its winners, a line for each code whose holidays don't reach the window,
+    and one for each key that is dropped.
     """
     with of_input(1):
         holidays = {} if job.holidays is None else read_holidays(inputs[1].data)
@@ -139,14 +149,22 @@ def of_prepare(job: Job, inputs: List[Input]) -> Tuple[List[str], int, List[str]
     clashes = clash_dates(extract_of(records)) if job.drop_clashes else None
     if clashes:
         records = published.prepared(read, holidays, clashes)
+    elif job.winners and not job.drop_clashes:
+        refuse_clash(extract_of(records))
     told = published.unreached(read, holidays)
     told += [published.told(key, days) for key, days in (clashes or {}).items()]
-    return (
-        published.written(records),
-        0,
-        told,
-        verbose.of_prepared(inputs[0], read, holidays, clashes),
-    )
+    if job.winners:
+        lines = winner_table(read, holidays, job.drop_clashes)
+        lines = rows_of(lines, job.command, False) if job.format == "json" else lines
+    else:
+        lines = published.written(records)
+    return lines, 0, told, verbose.of_prepared(inputs[0], read, holidays, clashes)
+
+
+def refuse_clash(extract: Extract) -> None:
+    """Refuses the first clash, if there is one."""
+    for clash in all_clashes(extract).values():
+        raise Fault(f"Ambiguous: {clash}", REFUSED)
 
 
 def waived_by(job: Job) -> Set[str]:
@@ -235,6 +253,11 @@ def laid_out(job: Job, day: Optional[date], extracts: List[Extract]) -> Tuple[Li
     if job.command == "day":
         assert day is not None
         return (tables.day_table if as_table else texts.day_view)(meaning, day, job.stops), 0
+    if job.command in OF_BOARDS:
+        place, calling_at = place_of(job.place), place_of(job.calling_at)
+        assert day is not None and place is not None
+        arrivals = job.command == "arrivals"
+        return (board_table if as_table else board)(meaning, arrivals, day, place, calling_at), 0
     if job.command == "train":
         assert job.uid is not None
         return (tables.train_table if as_table else texts.train_view)(
@@ -274,12 +297,16 @@ def is_mistake(job: Job) -> bool:
         "drop_clashes",
         "lenient",
         "in_sequence",
+        "winners",
+        "calling_at",
     )
     given = {name for name in names if getattr(job, name) not in (None, False)}
     taken = (
         job.form in (None, "1", "2", "3")
-        and job.format in (None, "tsv", "json", *(["text"] if job.command != "table" else []))
+        and job.format
+        in (None, "tsv", "json", *(["text"] if job.command not in ("table", "prepare") else []))
         and job.table in (None, *tables.TABLES)
+        and (job.command != "prepare" or job.format is None or job.winners)
     )
     count = len(job.files)
     fits = (

@@ -9,6 +9,8 @@ Value = Union[None, int, str, List[Dict[str, Union[None, int, str]]]]
 
 NUMBERS = {"schedule", "set_down", "pick_up", "runs"}
 CALL = "call_"
+# The commands whose rows have the number of a call.
+OF_NUMBERED_CALLS = ("table", "diff", "departures", "arrivals")
 
 
 def value_of(name: str, cell: str, numbers: Collection[str]) -> Union[None, int, str]:
@@ -53,4 +55,4 @@ def rows_of(lines: List[str], command: str, stops: bool) -> List[str]:
     """The rows of a command's table in JSON."""
     if stops:
         return of_calls(lines)
-    return of_table(lines, NUMBERS | ({"call"} if command in ("table", "diff") else set()))
+    return of_table(lines, NUMBERS | ({"call"} if command in OF_NUMBERED_CALLS else set()))

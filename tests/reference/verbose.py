@@ -40,6 +40,7 @@ KEPT, LOOKED_AT, COMMENTS = 82, 4096, 100
 WANTED = {
     "bad date": "must be a valid date, YYMMDD or YYYY-MM-DD",
     "bad UID": "must be six printable ASCII characters",
+    "bad place": "must be a TIPLOC or a CRS code, such as EUSTON or EUS",
 }
 NO_FILE = "No such file or directory (os error 2)"
 BEGINNINGS = {

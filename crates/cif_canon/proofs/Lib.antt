@@ -28,6 +28,7 @@ pub mod ReadPairs
 pub mod RunTexts
 pub mod RunningRecords
 pub mod SameExtracts
+pub mod SchedulesAt
 pub mod SidedTexts
 pub mod SiftedTiplocs
 pub mod Unique

@@ -63,7 +63,8 @@ pub use Rattle.cif_canon.specs.Accepted.{IsAccepted, IsAcceptedWithin, IsClearEx
 pub use Rattle.cif_canon.specs.{Appended.IsAppended, Canon.CanonParts, Canon.IsCanonOf, Differences.marked_tiploc, Differences.of_side}
 pub use Rattle.cif_canon.specs.{Fault.IsReadNarrowedFault, Fault.reading_narrowed, Lines.schedule_plain, Meaning.Agree}
 pub use Rattle.cif_canon.specs.{Meaning.SameMeaning, Normalised.normalising, Normalised.reading_canon, Steps.Records.extract_fault}
-pub use Rattle.cif_canon.specs.{Steps.Tiplocs.AreDistinct, declared.asked.Asked.Asked, declared.canonical_form.Counts.Counts}
+pub use Rattle.cif_canon.specs.Canon.{AreCanonSchedules}
+pub use Rattle.cif_canon.specs.{Tiplocs.AreDistinct, declared.asked.Asked.Asked, declared.canonical_form.Counts.Counts}
 pub use Rattle.cif_canon.specs.{declared.differing.Extent.TheVariants.AllKeys, declared.differing.Extent.TheVariants.FirstKey}
 pub use Rattle.cif_canon.specs.{declared.listed_differences.Side.Side, declared.listed_differences.Side.TheVariants.Left}
 pub use Rattle.cif_canon.specs.{declared.listed_differences.Side.TheVariants.Right, declared.listed_differences.Sided.Sided}

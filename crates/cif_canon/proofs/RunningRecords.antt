@@ -22,7 +22,7 @@ runs-true (b ∷ days) zero e = same_Some b true e
 runs-true (b ∷ days) (suc w) e = runs-true days w e
 
 -- a record passes the test exactly if it applies
-applies-decided : {B : Type 0} (r : Permanent B) (d : ℕ) → Decides (applies_on r d) (Applies r d)
+pub applies-decided : {B : Type 0} (r : Permanent B) (d : ℕ) → Decides (applies_on r d) (Applies r d)
 applies-decided r d = Decides-like (applies_on r d)
     (λ h. record { begun = h.0; unfinished = h.1.0; on_weekday = h.1.1 })
     (λ a. (a.begun, (a.unfinished, a.on_weekday)))

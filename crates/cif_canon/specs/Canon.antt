@@ -1,8 +1,11 @@
 -- What a `Canon` is: the canonical form of an extract, and why there is none.
 use Rattle.std.specs.Prelude.{◌≡◌, ℕ, List}
-use Rattle.cif_extract.specs.ExtractParts.{ExtractParts}
+use Rattle.std.specs.{Cmp.Lexicographic.slice_cmp, Ordering.nat_cmp}
+use Rattle.cif_calendar.specs.{Entries.schedule_entries, Meaning.EntriesSayTheSame}
+use Rattle.cif_extract.specs.{Body.BodyLines, ExtractParts.ExtractParts}
+use Rattle.cif_weeks.specs.{Canonical.AreCanonical, Permanent.Permanent, Permanent.permanent_entries}
 use Rattle.cif_weeks.specs.declared.form.Form.{Form}
-use Rattle.cif_canon.specs.{Accepted.IsClearExtract, Asked.IsNarrowed, Canonical.IsCanonicalOf, Counts.counts_of, Lines.ExtractLines}
+use Rattle.cif_canon.specs.{Accepted.IsClearExtract, Asked.IsNarrowed, Asked.header_window, Canonical.IsCanonicalOf, Counts.counts_of, Lines.ExtractLines}
 use Rattle.cif_canon.specs.{Lines.lines_of, declared.asked.Asked.Asked, declared.canonical_form.Counts.Counts}
 use Rattle.cif_canon.specs.NormalForm.{IsNormalFormAgain, IsReachedFromForms, IsUnique}
 
@@ -26,3 +29,9 @@ pub record IsCanonOf (form : Form) (x : ExtractParts) (c : CanonParts) : Type 0 
   pub lines_are : c.lines ≡ lines_of canonical.made
   -- the counts are those of its records
   pub counted : c.counts ≡ counts_of canonical.made
+
+-- The extract x is clear, and these are the schedules of its canonical form, each with its UID: they say what runs.
+pub record AreCanonSchedules (form : Form) (x : ExtractParts) (schedules : List (List ℕ × Permanent BodyLines)) : Type 0 where
+  pub clear : IsClearExtract x
+  pub canonical : AreCanonical (slice_cmp nat_cmp) form (header_window x.header) schedules
+  pub same_meaning : EntriesSayTheSame (schedule_entries x.schedules) (permanent_entries schedules) x.header.first x.header.last

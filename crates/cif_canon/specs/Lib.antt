@@ -16,4 +16,5 @@ pub mod Pairs
 pub mod Report
 pub mod Rows
 pub mod Steps
+pub mod Tiplocs
 pub mod Views

@@ -5,5 +5,4 @@ pub mod OnlySides
 pub mod Records
 pub mod Sides
 pub mod Texts
-pub mod Tiplocs
 pub mod Views

@@ -1,7 +1,7 @@
 //! The canonical form of an extract: its records, its counts and its text.
-ghost use Rattle.std.specs.Prelude.{◌≡◌, ◌<◌, All, IfErr, Some, length};
+ghost use Rattle.std.specs.Prelude.{◌≡◌, ◌↔◌, ◌<◌, All, IfErr, IsTrue, Some, length};
 ghost use Rattle.std.specs.List.{flat_map};
-ghost use Rattle.cif_calendar.specs.{Entries.schedule_entries, Keys.keyed};
+ghost use Rattle.cif_calendar.specs.{Applies.IsAmongDates, Entries.schedule_entries, Keys.keyed};
 ghost use Rattle.cif_columns.specs.Sink.{Writes};
 ghost use Rattle.cif_extract.specs.declared.fault.Fault.TheVariants.{Write};
 ghost use Rattle.cif_canon.specs.{Appended.IsAppended, Counts.counts_line};
@@ -10,8 +10,8 @@ ghost use Rattle.cif_canon.specs.Steps.Texts.{HasRecord, body_at, record_at, run
 use crate::extract_runs::AT_ONCE;
 use crate::writing::{Texts, answer, write_each};
 use arrayvec::ArrayString;
-use cif_calendar::Entry;
-use cif_columns::{Line, LineSlice, Sink, Uid, WriteDevice, WriteFault};
+use cif_calendar::{Dates, Entry};
+use cif_columns::{Day, Line, LineSlice, Sink, Uid, WriteDevice, WriteFault};
 use cif_extract::{
     Body, Extract, Fault, Schedule, ScheduleWriter, write_head, write_tiploc, write_trailer,
 };
@@ -151,6 +151,18 @@ impl<'a, K, B> Model for CanonRecord<'a, K, B> {
     ghost invariant = { λ r. r.run.now.first ≤ r.run.now.last };
 }
 
+/// Whether the run applies on the day.
+pub(crate) fn applies_on(run: &Run, day: Day) -> bool
+    ensures { IsTrue result ↔ IsAmongDates run.now.first run.now.last run.now.days day }
+{
+    let dates = Dates {
+        first: run.first,
+        last: run.last,
+        days: run.days,
+    };
+    dates.has(day)
+}
+
 /// The record of a run, whose source is an entry with its key and its body.
 pub(crate) fn record_of<'a, E: Entry>(
     entries: &'a [E],
@@ -187,6 +199,7 @@ pub type CanonSchedule<'a> = CanonRecord<'a, Uid, Body>;
 
 impl<'a> CanonRecord<'a, Uid, Body> {
     ghost use Rattle.cif_canon.specs.Lines.{schedule_plain};
+    ghost use Rattle.cif_weeks.specs.Applies.{Applies};
 
     /// The line of the BS of a schedule.
     pub fn basic(&self) -> Line
@@ -195,6 +208,27 @@ impl<'a> CanonRecord<'a, Uid, Body> {
         let run = self.run;
         let detail = self.body.detail_line();
         Basic::permanent_line(self.key, &detail, run.first, run.last, run.days)
+    }
+
+    /// The train.
+    pub fn uid(&self) -> &'a Uid
+        ensures { result.now ≡ self.now.0 }
+    {
+        self.key
+    }
+
+    /// What runs.
+    pub fn body(&self) -> &'a Body
+        ensures { result.now ≡ self.now.1.body }
+    {
+        self.body
+    }
+
+    /// Whether it runs on the day.
+    pub fn runs_on(&self, day: Day) -> bool
+        ensures { IsTrue result ↔ Applies self.now.1 day }
+    {
+        applies_on(self.run, day)
     }
 
     /// The lines that follow its BS.

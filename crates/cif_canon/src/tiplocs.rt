@@ -2,7 +2,7 @@
 ghost use Rattle.std.specs.Prelude.{◌+◌, ◌<◌, IfOk, List, length};
 ghost use Rattle.cif_records.specs.declared.tiploc.Tiploc.{Tiploc};
 ghost use Rattle.cif_canon.specs.{Differences.AreDifferentTiplocs, Steps.OnlySides.AreSifting, Steps.OnlySides.IsFirstOrder};
-ghost use Rattle.cif_canon.specs.{Steps.Tiplocs.AreDistinct};
+ghost use Rattle.cif_canon.specs.Tiplocs.{AreDistinct};
 
 use crate::listed_differences::{Side, Sided, push_next};
 use cif_records::Tiploc;
@@ -10,7 +10,7 @@ use std::alloc::{AllocError, Global};
 use std::cmp::Ordering;
 
 /// The locations, each once, rising by their columns.
-pub(crate) fn distinct_tiplocs(alloc: Global, tiplocs: &[Tiploc]) -> Result<Vec<Tiploc>, AllocError>
+pub fn distinct_tiplocs(alloc: Global, tiplocs: &[Tiploc]) -> Result<Vec<Tiploc>, AllocError>
     ensures { IfOk result (λ distinct. AreDistinct tiplocs.now distinct.items) }
 {
     let mut distinct = Vec::from_slice(alloc, tiplocs)?;

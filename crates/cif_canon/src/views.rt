@@ -1,17 +1,15 @@
 //! What runs on a day, and when a train runs.
-ghost use Rattle.std.specs.Prelude.{◌↔◌, ℕ, List, IfErr, IsTrue};
+ghost use Rattle.std.specs.Prelude.{ℕ, List, IfErr};
 ghost use Rattle.cif_extract.specs.ExtractParts.{extract_parts};
-ghost use Rattle.cif_calendar.specs.Applies.{IsAmongDates};
 ghost use Rattle.cif_weeks.specs.Runs.{record_of};
 ghost use Rattle.cif_canon.specs.{Appended.IsAppended, Normalised.FaultWrites, Normalised.IfWritten};
 ghost use Rattle.cif_canon.specs.Views.{IsDayFault, IsDayListed, IsDayView, IsTrainFault, IsTrainListed, IsTrainView};
 
 use crate::asked::check_within;
-use crate::canonical_form::{CanonRecord, write_runs};
+use crate::canonical_form::{CanonRecord, applies_on, write_runs};
 use crate::extract_runs::extract_runs;
 use crate::rows::{push_association_row, push_schedule_row, push_train_row};
 use crate::writing::{Texts, answer};
-use cif_calendar::Dates;
 use cif_columns::{Day, Sink, Uid, WriteDevice};
 use cif_extract::{Body, Extract, Fault};
 use cif_records::{AssocBody, AssocKey};
@@ -188,18 +186,6 @@ pub fn write_day<L: DayLines, W: WriteDevice>(
         sink,
     );
     answer(sink)
-}
-
-/// Whether the run applies on the day.
-fn applies_on(run: &Run, day: Day) -> bool
-    ensures { IsTrue result ↔ IsAmongDates run.now.first run.now.last run.now.days day }
-{
-    let dates = Dates {
-        first: run.first,
-        last: run.last,
-        days: run.days,
-    };
-    dates.has(day)
 }
 
 /// What is listed of the records that apply on a day.

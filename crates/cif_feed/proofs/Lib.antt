@@ -32,3 +32,17 @@ pub mod WrittenPrepared
 pub mod Names
 pub mod UpdatesRead
 pub mod PreparedRead
+pub mod DecidingOrder
+pub mod DecidingRuns
+pub mod DecidingTrains
+pub mod DecidedTrains
+pub mod TrainRows
+pub mod FoundDeciders
+pub mod MadeWinners
+pub mod FirstPublishedClash
+pub mod ToldWinners
+pub mod WrittenWinners
+pub mod WinnersRead
+pub mod RankedPositions
+pub mod PartDates
+pub mod MergedDates

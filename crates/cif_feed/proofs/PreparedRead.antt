@@ -69,7 +69,7 @@ module _ {R : Type 0} (remaining : R → Option (List ℕ)) (errors : R → Opti
 -- ---- the whole run
 
 -- which holidays don't reach is said of the published extract that the bytes spell
-same-unreached : (h : Holidays) (bytes : List ℕ) (p : PublishedParts) → BytesSpellPublished (codes_named h) MAX_LINES bytes p →
+pub same-unreached : (h : Holidays) (bytes : List ℕ) (p : PublishedParts) → BytesSpellPublished (codes_named h) MAX_LINES bytes p →
     (holidays : Option Holidays) → holidays ≡ Some h → (extract : Option PublishedExtract) →
     IsSomeAnd extract (IsPublishedOf (codes_named h) MAX_LINES bytes) → unreached_among holidays extract ≡ all_unreached h p
 same-unreached h bytes p spelled holidays is None none = absurd none
@@ -78,7 +78,7 @@ same-unreached h bytes p spelled holidays is (Some extract) some =
     ∙ ap (all_unreached h) (one_published (codes_named h) (contents_of bytes) (published_parts extract) p some.spelled.spell spelled.spell)
 
 -- why the published extract isn't prepared
-prepare-refused : (h : Holidays) (bytes : List ℕ) (after : Unread) (f : FeedFault) → IsOnePrepareFault h MAX_LINES bytes after f →
+pub prepare-refused : (h : Holidays) (bytes : List ℕ) (after : Unread) (f : FeedFault) → IsOnePrepareFault h MAX_LINES bytes after f →
     IsDeviceOrMemory f ⊎ IsFirstOfFeed Full (codes_named h) MAX_LINES (contents_of bytes) f
 prepare-refused h bytes after (Extract (fault.Refused line why)) is = inr is.0
 prepare-refused h bytes after (Extract fault.Read) is = inl tt

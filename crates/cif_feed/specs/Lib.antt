@@ -15,6 +15,7 @@ pub mod HolidayText
 pub mod Holidays
 pub mod Judged
 pub mod LastDay
+pub mod Laws
 pub mod LayoutRefusals
 pub mod Marks
 pub mod OfProfile
@@ -39,6 +40,9 @@ pub mod Updated
 pub mod UpdatesInTurn
 pub mod Waived
 pub mod Words
+pub mod Winners
+pub mod WinnersAnswer
 pub mod WrittenExtracts
 pub mod WrittenOver
 pub mod WrittenPrepared
+pub mod WrittenWinners

@@ -1,6 +1,7 @@
 -- What the contracts of the code's own steps speak of. No clause of a public function cites it, so nothing here has to be believed.
 pub mod Changes
 pub mod Counting
+pub mod Deciding
 pub mod Dropping
 pub mod FeedLine
 pub mod FeedReading

@@ -4,6 +4,7 @@
 mod changes;
 mod counting;
 mod cut_count;
+mod deciding;
 mod dropped;
 mod feed_fault;
 mod feed_line;
@@ -22,6 +23,8 @@ mod record_keys;
 mod unreached;
 mod update;
 mod updates_in_turn;
+mod winners;
+mod winners_answer;
 mod written;
 
 pub use changes::{Action, Keyed, RecordChange, RefusedLine, Unfit, Waived, apply};
@@ -39,3 +42,4 @@ pub use reasons::Reasons;
 pub use unreached::Unreached;
 pub use update::{Outcome, Update, current_reference, last_reference};
 pub use updates_in_turn::{DoneUpdate, KeptUpdate, ReadFeed, answer_update};
+pub use winners_answer::{answer_winners, write_winners};

@@ -81,7 +81,7 @@ pub fn answer_prepare<R: ReadDevice, W: WriteDevice>(
 /// The holidays that the source gives; none where there is no source.
 // Inlined, it would keep its buffer on the stack while the extract is read.
 #[inline(never)]
-fn read_holidays<R: ReadDevice>(
+pub(crate) fn read_holidays<R: ReadDevice>(
     alloc: Global,
     holidays: &mut Option<Source<R>>,
 ) -> Result<Holidays, FeedFault>
@@ -207,7 +207,7 @@ impl PublishedExtract {
     }
 
     /// The dates on which keys of associations and of trains clash. These keys are listed.
-    fn clash_dates(
+    pub(crate) fn clash_dates(
         &self,
         alloc: Global,
         holidays: &Holidays,

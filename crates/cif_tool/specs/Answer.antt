@@ -15,17 +15,17 @@ use Rattle.cif_canon.specs.{Pair.IsNarrowedPair, Pair.SpellPair, Views.IsDayFaul
 use Rattle.cif_canon.specs.{declared.canonical_form.Counts.Counts, declared.comparison.Comparison.Comparison}
 use Rattle.cif_rows.specs.declared.format.{Format.Format, Format.TheVariants.Text}
 use Rattle.cif_views.specs.{Clashes.AreAllClashes, Clashes.clash_table, Clashes.clashes_text, DateCalendar.IsDateCalendar}
-use Rattle.cif_views.specs.{DifferenceTable.difference_table, Explanation.IsExplanation}
+use Rattle.cif_views.specs.{Boards.IsBoard, DifferenceTable.difference_table, Explanation.IsExplanation}
 use Rattle.cif_views.specs.{Explanation.IsExplanationFault, Listing.IsDayListing, Listing.IsTrainListing, TableText.table_text}
 use Rattle.cif_views.specs.{WeekCalendar.IsWeekCalendar}
 use Rattle.cif_canon.specs.Differences.{AreDifferences, AreNone, DifferencesParts, differences_text}
 use Rattle.cif_tool.{specs.Status.outcome_of, specs.declared.job.Job.TheVariants.Train}
-pub use Rattle.cif_tool.specs.declared.{job.CalendarJob.CalendarJob, job.CanonicalJob.CanonicalJob, job.ClashesJob.ClashesJob, job.CompareJob.CompareJob}
+pub use Rattle.cif_tool.specs.declared.{job.BoardJob.BoardJob, job.CalendarJob.CalendarJob, job.CanonicalJob.CanonicalJob, job.ClashesJob.ClashesJob, job.CompareJob.CompareJob}
 pub use Rattle.cif_tool.specs.declared.{job.DayJob.DayJob, job.ExplainJob.ExplainJob, job.TrainJob.TrainJob}
 use Rattle.cif_tool.specs.declared.{answers.CanonicalOutput.CanonicalOutput, answers.PairOutput.PairOutput, job.Job.Job}
 use Rattle.cif_tool.specs.declared.answers.CanonicalOutput.TheVariants as output
 use Rattle.cif_tool.specs.declared.answers.PairOutput.TheVariants as pair
-use Rattle.cif_tool.specs.declared.job.Job.TheVariants.{Calendar, Check, CheckAll, Clashes, Compare, Day, Diff, Explain, Normalise, Table}
+use Rattle.cif_tool.specs.declared.job.Job.TheVariants.{Board, Calendar, Check, CheckAll, Clashes, Compare, Day, Diff, Explain, Normalise, Table}
 
 -- P holds of the status of an answer, whose text was written or, at Write, a prefix of it was
 abbrev pub IfAnswered : Result ℕ Fault → (ℕ → Type 0) → Type 0
@@ -85,6 +85,13 @@ pub record IsDayAnswer (job : DayJob) (bytes text : List ℕ) (status : ℕ) : T
   pub extract : ExtractParts
   pub spelled : BytesSpellWithin MAX_LINES bytes extract
   pub view : IsDayListing job.listing extract job.day text
+  pub status_is : status ≡ 0
+
+-- `departures` and `arrivals` answer these bytes by the board of a place, in this format.
+pub record IsBoardAnswer (job : BoardJob) (bytes text : List ℕ) (status : ℕ) : Type 0 where
+  pub extract : ExtractParts
+  pub spelled : BytesSpellWithin MAX_LINES bytes extract
+  pub view : IsBoard job.format extract job.board text
   pub status_is : status ≡ 0
 
 -- `train` answers these bytes by when the train runs, in this listing.
@@ -234,6 +241,7 @@ IsJobAnswer remaining (Explain job) source right = OfInput remaining (IsExplainA
 IsJobAnswer remaining (Clashes job) source right = OfInput remaining (IsClashesAnswer job) source
 IsJobAnswer remaining (Table job) source right = OfInput remaining (IsCanonicalAnswer (output.Table job.table job.format) job.canonical) source
 IsJobAnswer remaining (Calendar job) source right = OfInput remaining (IsCalendarAnswer job) source
+IsJobAnswer remaining (Board job) source right = OfInput remaining (IsBoardAnswer job) source
 
 -- why a command with one input has none
 abbrev pub IsJobFault : Job → List ℕ → Unread → Fault → Type 0
@@ -243,6 +251,7 @@ IsJobFault (Check job) = IsNormaliseFault MAX_LINES job.asked
 IsJobFault (Train job) = IsNormaliseFault MAX_LINES job.asked
 IsJobFault (Table job) = IsNormaliseFault MAX_LINES job.canonical.asked
 IsJobFault (Day job) = IsDayRefusal job.day
+IsJobFault (Board job) = IsDayRefusal job.board.day
 IsJobFault (Explain job) = IsExplainRefusal job.day
 IsJobFault (Clashes job) = IsClashlessRefusal job.asked
 IsJobFault (Calendar job) = IsClashlessRefusal job.asked

@@ -5,9 +5,9 @@ use Rattle.clap.specs.Words.{App, Row, Rule, Text, app_of, fault_of, new_app, ne
 use Rattle.clap.{specs.Kinds.Kinds, specs.Lexer.usize_max, specs.declared.builder.ValueParser.TheVariants.Names}
 use Rattle.clap.specs.declared.{Command.Command, Command.TheViews.out-Command, builder.ArgAction.TheVariants.SetTrue}
 use Rattle.cif_tool.specs.declared.{command_line.Argument.Argument, command_line.Choices.Choices, command_line.Syntax.Syntax}
-use Rattle.cif_tool.specs.declared.command_line.Argument.TheVariants.{All, Common, Date, DropClashes, File, Form, Format, FromDate, Full}
-use Rattle.cif_tool.specs.declared.command_line.Argument.TheVariants.{Holidays, InSequence, Left, Lenient, Right, Stops, Table}
-use Rattle.cif_tool.specs.declared.command_line.Argument.TheVariants.{TableFormat, ToDate, Uid, Updates, Verbose}
+use Rattle.cif_tool.specs.declared.command_line.Argument.TheVariants.{All, CallingAt, Common, Date, DropClashes, File, Form, Format, FromDate, Full}
+use Rattle.cif_tool.specs.declared.command_line.Argument.TheVariants.{Holidays, InSequence, Left, Lenient, Place, Right, Stops, Table}
+use Rattle.cif_tool.specs.declared.command_line.Argument.TheVariants.{TableFormat, ToDate, Uid, Updates, Verbose, Winners, WinnersFormat}
 use Rattle.cif_tool.specs.declared.command_line.Syntax.TheVariants as syntax
 
 -- a word that may not be left out
@@ -67,12 +67,16 @@ given Common = (codes "common", syntax.Flag)
 given Stops = (codes "stops", syntax.Flag)
 given Holidays = (codes "holidays", syntax.Name)
 given DropClashes = (codes "drop-clashes", syntax.Flag)
+given Winners = (codes "winners", syntax.Flag)
+given WinnersFormat = (codes "format", syntax.WinnersFormat)
 given Lenient = (codes "lenient", syntax.Flag)
 given InSequence = (codes "in-sequence", syntax.Flag)
 given Form = (codes "form", syntax.Form)
 given Format = (codes "format", syntax.Format)
 given TableFormat = (codes "format", syntax.TableFormat)
 given Table = (codes "TABLE", syntax.Table)
+given Place = (codes "PLACE", syntax.Required)
+given CallingAt = (codes "calling-at", syntax.Place)
 
 -- what a subcommand can take
 abbrev pub argument : Choices → Text × Syntax → Rule
@@ -83,9 +87,11 @@ argument choices (id, syntax.Flag) = flag id
 argument choices (id, syntax.Verbose) = record (flag id) { short = Some 118 }
 argument choices (id, syntax.Name) = option id
 argument choices (id, syntax.Date) = option id
+argument choices (id, syntax.Place) = option id
 argument choices (id, syntax.Form) = one_of_or choices.forms (codes "2") (option id)
 argument choices (id, syntax.Format) = one_of_or choices.formats (codes "text") (option id)
 argument choices (id, syntax.TableFormat) = one_of_or choices.table_formats (codes "tsv") (option id)
+argument choices (id, syntax.WinnersFormat) = one_of choices.table_formats (option id)
 argument choices (id, syntax.Table) = one_of choices.tables (required id)
 
 -- a subcommand that takes these arguments too
@@ -133,9 +139,17 @@ table = Verbose ∷ Table ∷ File ∷ FromDate ∷ ToDate ∷ Form ∷ TableFor
 abbrev pub calendar : List Argument
 calendar = Verbose ∷ Uid ∷ File ∷ FromDate ∷ ToDate ∷ Format ∷ []
 
--- `cif prepare [-v] [--holidays FILE] [--drop-clashes] [FILE]`
+-- `cif departures [-v] [--calling-at PLACE] [--format FORMAT] PLACE YYMMDD [FILE]`
+abbrev pub departures : List Argument
+departures = Verbose ∷ Place ∷ Date ∷ File ∷ CallingAt ∷ Format ∷ []
+
+-- `cif arrivals [-v] [--format FORMAT] PLACE YYMMDD [FILE]`
+abbrev pub arrivals : List Argument
+arrivals = Verbose ∷ Place ∷ Date ∷ File ∷ Format ∷ []
+
+-- `cif prepare [-v] [--holidays FILE] [--drop-clashes] [--winners [--format FORMAT]] [FILE]`
 abbrev pub prepare : List Argument
-prepare = Verbose ∷ File ∷ Holidays ∷ DropClashes ∷ []
+prepare = Verbose ∷ File ∷ Holidays ∷ DropClashes ∷ Winners ∷ WinnersFormat ∷ []
 
 -- `cif update [-v] [--lenient] [--in-sequence] FULL UPDATE...`
 abbrev pub update : List Argument
@@ -163,7 +177,8 @@ abbrev pub extract_subcommands : List (Text × List Argument)
 extract_subcommands =
     (codes "normalise", normalise) ∷ (codes "check", check) ∷ (codes "compare", compare) ∷ (codes "diff", diff)
     ∷ (codes "day", day) ∷ (codes "train", train) ∷ (codes "explain", explain) ∷ (codes "clashes", clashes)
-    ∷ (codes "table", table) ∷ (codes "calendar", calendar) ∷ []
+    ∷ (codes "table", table) ∷ (codes "calendar", calendar) ∷ (codes "departures", departures)
+    ∷ (codes "arrivals", arrivals) ∷ []
 
 abbrev pub feed_subcommands : List (Text × List Argument)
 feed_subcommands = (codes "prepare", prepare) ∷ (codes "update", update) ∷ []

@@ -1,12 +1,14 @@
 -- What the words of a call ask for.
 use Rattle.std.specs.Prelude.{Bool, IsSomeAnd, List, None, Option, Some, [], codes, count_by, false, if◌then◌else◌, map, option_to_list}
-use Rattle.std.specs.Prelude.{string_bytes, true, unwrap_or, ℕ, ⊤, ◌++◌, ◌||◌, ◌∷◌, ◌≡◌, ◌≤◌}
+use Rattle.std.specs.Prelude.{string_bytes, true, unwrap_or, ℕ, ⊤, ⊥, ◌++◌, ◌||◌, ◌∷◌, ◌≡◌, ◌≤◌}
 use Rattle.std.specs.Str.{bytes_eq}
 use Rattle.clap.specs.Words.{Row, Text, all_of, first_of}
 use Rattle.cif_canon.specs.declared.asked.Asked.{Asked}
 use Rattle.cif_rows.specs.declared.format.Format.{Format}
 use Rattle.cif_rows.specs.declared.format.Format.TheVariants as format
 use Rattle.cif_views.specs.declared.{listing.Listing.Listing, tables.Table.Table as TableOf}
+use Rattle.cif_views.specs.{Places.IsPlaceOf, declared.board.BoardKind.BoardKind, declared.board.BoardKind.TheVariants.Arrivals}
+use Rattle.cif_views.specs.declared.{board.BoardKind.TheVariants.Departures, places.Place.Place}
 use Rattle.cif_views.specs.declared.tables.Table.TheVariants as table
 use Rattle.cif_columns.specs.{DateWord.IsDateWord, Uid.IsUid}
 use Rattle.cif_feed.specs.declared.{changes.Waived.TheVariants.Everything, changes.Waived.TheVariants.Keys}
@@ -15,9 +17,11 @@ use Rattle.cif_weeks.specs.declared.{form.Form.Form, form.Form.TheVariants.One, 
 use Rattle.cif_weeks.specs.declared.form.Form.TheVariants.{Two}
 use Rattle.cif_tool.specs.{CommandLine.AreChoices, CommandLine.chosen, CommandLine.faults_of, declared.job.Job.TheVariants.Train}
 use Rattle.cif_tool.specs.declared.{command_line.Choices.Choices, job.FeedJob.FeedJob, job.FeedJob.TheVariants.Prepare}
-use Rattle.cif_tool.specs.declared.{job.FeedJob.TheVariants.Update, job.InputNames.InputNames, job.Job.Job, job.Request.Request}
+use Rattle.cif_tool.specs.declared.{job.FeedJob.TheVariants.Update, job.FeedJob.TheVariants.Winners}
+use Rattle.cif_tool.specs.declared.{job.InputNames.InputNames, job.Job.Job, job.Request.Request}
 use Rattle.cif_tool.specs.declared.{job.Task.Task, job.Task.TheVariants.Extract, job.Task.TheVariants.Feed}
-use Rattle.cif_tool.specs.declared.job.Job.TheVariants.{Calendar, Check, CheckAll, Clashes, Compare, Day, Diff, Explain, Normalise, Table}
+use Rattle.cif_tool.specs.declared.job.{BoardJob.BoardJob}
+use Rattle.cif_tool.specs.declared.job.Job.TheVariants.{Board, Calendar, Check, CheckAll, Clashes, Compare, Day, Diff, Explain, Normalise, Table}
 
 -- The word of this id. `clap` misses none that is required; one that is missing counts as empty.
 abbrev pub required_word : Text → List Row → Text
@@ -117,6 +121,24 @@ pub record AreComparedWords (rows : List Row) (asked : Asked) (common : Bool) : 
   pub is_asked : IsAskedBy rows asked
   pub is_common : common ≡ has_flag (codes "common") rows
 
+-- the word is a place, or neither is there
+abbrev pub IsPlaceIf : Option Text → Option Place → Type 0
+IsPlaceIf (Some word) (Some place) = IsPlaceOf word place
+IsPlaceIf None None = ⊤
+IsPlaceIf _ _ = ⊥
+
+-- the subcommand of a board
+abbrev pub board_name : BoardKind → Text
+board_name Departures = codes "departures"
+board_name Arrivals = codes "arrivals"
+
+-- the words ask for this board, but for its kind
+pub record AreBoardWords (rows : List Row) (job : BoardJob) : Type 0 where
+  pub place : IsPlaceOf (required_word (codes "PLACE") rows) job.board.place
+  pub day : IsDateWord (required_word (codes "YYMMDD") rows) job.board.day
+  pub calling_at : IsPlaceIf (first_of (codes "calling-at") rows) job.board.calling_at
+  pub format : job.format ≡ format_of (first_of (codes "format") rows)
+
 -- the subcommand is the job's, and its matches hold what the job holds
 abbrev pub IsChosen : Job → Text × List Row → Type 0
 IsChosen (Normalise job) met = (met.0 ≡ codes "normalise") × AreCanonicalWords met.1 job.asked job.form
@@ -150,10 +172,15 @@ IsChosen (Calendar job) met = (met.0 ≡ codes "calendar")
     × IsUidWord (required_word (codes "UID") met.1) job.uid
     × IsAskedBy met.1 job.asked
     × (job.format ≡ format_of (first_of (codes "format") met.1))
+IsChosen (Board job) met = (met.0 ≡ board_name job.board.kind) × AreBoardWords met.1 job
 
 -- the words that were met ask for this job on published extracts
 abbrev pub IsFeedChosen : FeedJob → Text × List Row → Type 0
-IsFeedChosen (Prepare job) met = (met.0 ≡ codes "prepare") × (job.drop_clashes ≡ has_flag (codes "drop-clashes") met.1)
+IsFeedChosen (Prepare job) met = (met.0 ≡ codes "prepare") × (has_flag (codes "winners") met.1 ≡ false)
+    × (first_of (codes "format") met.1 ≡ None) × (job.drop_clashes ≡ has_flag (codes "drop-clashes") met.1)
+IsFeedChosen (Winners job) met = (met.0 ≡ codes "prepare") × (has_flag (codes "winners") met.1 ≡ true)
+    × (job.format ≡ table_format_of (first_of (codes "format") met.1))
+    × (job.prepare.drop_clashes ≡ has_flag (codes "drop-clashes") met.1)
 IsFeedChosen (Update job) met = (met.0 ≡ codes "update") × (job.waived ≡ waived_of met.1)
 
 -- the words that were met ask for this task

@@ -1,6 +1,6 @@
 -- Why the words of a call ask for nothing.
 use Rattle.std.specs.Prelude.{Err, IfErr, IfOk, IsSomeAnd, List, None, Ok, Option, Result, Some, [], codes, if◌then◌else◌, string_bytes, ℕ}
-use Rattle.std.specs.Prelude.{⊤, ◌<◌, ◌∷◌, ◌≡◌, ◌≢◌, ◌⊎◌}
+use Rattle.std.specs.Prelude.{false, ⊤, ⊥, ◌++◌, ◌<◌, ◌∷◌, ◌≡◌, ◌≢◌, ◌⊎◌}
 use Rattle.std.specs.Str.{bytes_eq}
 use Rattle.clap.specs.{Words.IsAmong, Words.Row, Words.Text, Words.first_of, declared.error.ErrorKind.TheVariants.DisplayVersion}
 use Rattle.clap.specs.declared.{error.ErrorKind.ErrorKind, error.ErrorKind.TheVariants.DisplayHelp}
@@ -8,12 +8,13 @@ use Rattle.cif_columns.{specs.DateWord.IsDateWord, specs.Uid.IsUid, specs.declar
 use Rattle.cif_columns.specs.Sink.{HasFailed, HasWritten, Writes}
 use Rattle.cif_extract.specs.declared.{fault.Fault.Fault, fault.Fault.TheVariants.Write}
 use Rattle.cif_feed.specs.FeedAnswer.{IsHandedOn}
+use Rattle.cif_views.specs.Places.{IsPlaceWord}
 use Rattle.cif_tool.specs.CommandLine.{AreChoices, chosen, faults_of, subcommands}
-use Rattle.cif_tool.specs.Job.{IsTaskChosen, inputs_of, required_word, standard_inputs}
+use Rattle.cif_tool.specs.Job.{IsTaskChosen, has_flag, inputs_of, required_word, standard_inputs}
 use Rattle.cif_tool.{specs.Status.ReportsFault, specs.Status.end_status, specs.declared.job.Task.Task}
 use Rattle.cif_tool.specs.declared.{command_line.Argument.Argument, command_line.Choices.Choices, job.Inputs.Inputs, job.JobFault.JobFault}
 use Rattle.cif_tool.specs.declared.job.Inputs.TheVariants.{Extracts, HolidaysAndFile, LeftAndRight}
-use Rattle.cif_tool.specs.declared.job.JobFault.TheVariants.{BadDate, BadUid, Memory, NoCommand, StandardInputTwice, Usage}
+use Rattle.cif_tool.specs.declared.job.JobFault.TheVariants.{BadDate, BadPlace, BadUid, FormatAlone, Memory, NoCommand, StandardInputTwice, Usage}
 
 -- the word isn't a date
 abbrev pub NamesNoDay : Text → Type 0
@@ -31,14 +32,37 @@ HasBadDate id rows = IsSomeAnd (first_of id rows) NamesNoDay
 abbrev pub HasBadWindow : List Row → Type 0
 HasBadWindow rows = HasBadDate (codes "from") rows ⊎ HasBadDate (codes "to") rows
 
+-- the subcommand takes a place, and its word is none
+abbrev pub IsBoardName : Text → Type 0
+IsBoardName name = (name ≡ codes "departures") ⊎ (name ≡ codes "arrivals")
+
+abbrev pub HasBadPlace : Text × List Row → Type 0
+HasBadPlace met = IsBoardName met.0 × ¬ IsPlaceWord (required_word (codes "PLACE") met.1)
+
+-- the word of `--calling-at` is no place
+abbrev pub HasBadGoal : List Row → Type 0
+HasBadGoal rows = IsSomeAnd (first_of (codes "calling-at") rows) (λ word. ¬ IsPlaceWord word)
+
+-- why the words of a board ask for nothing: a place is none, or else a date is none, or else the place where trains have to call is none
+abbrev pub IsBoardFault : List Row → JobFault → Type 0
+IsBoardFault rows BadPlace = (¬ IsPlaceWord (required_word (codes "PLACE") rows))
+    ⊎ (IsPlaceWord (required_word (codes "PLACE") rows) × (¬ NamesNoDay (required_word (codes "YYMMDD") rows)) × HasBadGoal rows)
+IsBoardFault rows BadDate = IsPlaceWord (required_word (codes "PLACE") rows) × NamesNoDay (required_word (codes "YYMMDD") rows)
+IsBoardFault rows fault = ⊥
+
 -- the subcommand takes a day, and its word names none
 abbrev pub HasBadDay : Text × List Row → Type 0
-HasBadDay met = ((met.0 ≡ codes "day") ⊎ (met.0 ≡ codes "explain")) × NamesNoDay (required_word (codes "YYMMDD") met.1)
+HasBadDay met = ((met.0 ≡ codes "day") ⊎ ((met.0 ≡ codes "explain") ⊎ IsBoardName met.0)) × NamesNoDay (required_word (codes "YYMMDD") met.1)
 
 -- the subcommand takes a UID, and its word is none
 abbrev pub HasBadUid : Text × List Row → Type 0
 HasBadUid met = ((met.0 ≡ codes "train") ⊎ ((met.0 ≡ codes "explain") ⊎ (met.0 ≡ codes "calendar")))
     × IsNoUid (required_word (codes "UID") met.1)
+
+-- `prepare` is given a format, and no table of winners is asked for
+abbrev pub HasFormatAlone : Text × List Row → Type 0
+HasFormatAlone met =
+    (met.0 ≡ codes "prepare") × (has_flag (codes "winners") met.1 ≡ false) × ((word : Text) × (first_of (codes "format") met.1 ≡ Some word))
 
 -- none of these subcommands has the name
 abbrev pub IsNoneOf : List (Text × List Argument) → Text → Type 0
@@ -57,13 +81,16 @@ pub record IsStandardTwice (inputs : Inputs) (met : Text × List Row) : Type 0 w
   pub twice : 1 < standard_inputs (inputs_of met)
   pub which : inputs ≡ several_of met.0
 
--- Why the words of a subcommand ask for nothing: it isn't one of the program's own; or a UID is none, or else a date is none, or else two
--- inputs are standard input. Memory may run out at any words.
+-- Why the words of a subcommand ask for nothing: it isn't one of the program's own; or a UID is none, or a place is none, or else a date is
+-- none, or else the place where trains have to call is none; or there is a format without a table; or else two inputs are standard input.
+-- Memory may run out at any words.
 abbrev pub IsWordFault : JobFault → Text × List Row → Type 0
 IsWordFault NoCommand met = IsNoneOf subcommands met.0
 IsWordFault BadUid met = HasBadUid met
-IsWordFault BadDate met = ¬ HasBadUid met
+IsWordFault BadPlace met = HasBadPlace met ⊎ (IsBoardName met.0 × (¬ HasBadPlace met) × (¬ HasBadDay met) × HasBadGoal met.1)
+IsWordFault BadDate met = (¬ HasBadUid met) × (¬ HasBadPlace met)
     × (HasBadDay met ⊎ HasBadWindow met.1)
+IsWordFault FormatAlone met = HasFormatAlone met
 IsWordFault (StandardInputTwice inputs) met = IsStandardTwice inputs met
 IsWordFault Memory met = ⊤
 IsWordFault (Usage kind text) met = ⊥
@@ -102,6 +129,8 @@ status_of (Usage kind text) = kind_status kind
 status_of NoCommand = 2
 status_of BadDate = 2
 status_of BadUid = 2
+status_of BadPlace = 2
+status_of FormatAlone = 2
 status_of (StandardInputTwice inputs) = 2
 status_of Memory = 4
 
@@ -111,6 +140,9 @@ text_of (Usage kind text) = string_bytes text
 text_of NoCommand = codes "cif: no command\n"
 text_of BadDate = codes "cif: bad date\n"
 text_of BadUid = codes "cif: bad UID\n"
+text_of BadPlace = codes "cif: bad place\n"
+text_of FormatAlone = codes "error: the following required arguments were not provided:\n  --winners\n\n"
+    ++ codes "Usage: cif prepare --winners --format <FORMAT> [FILE]\n\nFor more information, try '--help'.\n"
 text_of (StandardInputTwice LeftAndRight) = codes "cif: LEFT and RIGHT are both standard input\n"
 text_of (StandardInputTwice HolidaysAndFile) = codes "cif: --holidays and FILE are both standard input\n"
 text_of (StandardInputTwice Extracts) = codes "cif: two inputs are standard input\n"

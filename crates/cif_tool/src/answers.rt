@@ -4,7 +4,7 @@ ghost use Rattle.cif_canon.specs.Fault.{IsNormaliseFault};
 ghost use Rattle.cif_columns.specs.{Sink.Writes, declared.line_reader.TheConstants.MAX_LINES};
 ghost use Rattle.cif_extract.specs.declared.fault.Fault.TheVariants.{Write};
 ghost use Rattle.cif_feed.specs.FeedAnswer.{IsHandedOn};
-ghost use Rattle.cif_tool.specs.Answer.{Answers, AreAnswered, AreComparedAs, Finishes, IsAnswered, IsCalendarAnswer, IsCheckAllAnswer};
+ghost use Rattle.cif_tool.specs.Answer.{Answers, AreAnswered, AreComparedAs, Finishes, IsAnswered, IsBoardAnswer, IsCalendarAnswer, IsCheckAllAnswer};
 ghost use Rattle.cif_tool.specs.Answer.{IsClashesAnswer, IsClashlessRefusal, IsCanonicalAnswer, IsDayAnswer, IsDayRefusal, IsPairAnswer};
 ghost use Rattle.cif_tool.specs.Answer.{IsExplainAnswer, IsExplainRefusal, IsJobAnswer, IsJobResult, IsTrainAnswer, answering};
 ghost use Rattle.cif_tool.specs.Answer.{IsCalendarIn, answering_all, canonical_text, clashes_in, differences_in};
@@ -14,7 +14,7 @@ ghost use Rattle.cif_views.specs.WeekCalendar.{IsWeekCalendarFault};
 ghost use Rattle.cif_tool.specs.Status.{ReportsFault, end_status};
 
 use crate::job::{
-    CalendarJob, CanonicalJob, ClashesJob, CompareJob, DayJob, ExplainJob, Job, TrainJob,
+    BoardJob, CalendarJob, CanonicalJob, ClashesJob, CompareJob, DayJob, ExplainJob, Job, TrainJob,
 };
 use crate::status::{DONE, Ended, REFUSED, end, listed, outcome};
 use cif_canon::{
@@ -27,7 +27,7 @@ use cif_feed::{Judged, Reasons};
 use cif_rows::Format;
 use cif_views::{
     Clashes, Table, clashes, date_calendar, day_listing, explain_listing, train_listing,
-    week_calendar, write_difference_table, write_table,
+    week_calendar, write_board, write_difference_table, write_table,
 };
 use std::alloc::Global;
 
@@ -200,6 +200,24 @@ pub fn answer_day<R: ReadDevice, W: WriteDevice>(
     finish(written, sink, DONE)
 }
 
+/// Writes what leaves from a place, or arrives there, and answers status 0.
+pub fn answer_board<R: ReadDevice, W: WriteDevice>(
+    alloc: Global,
+    source: &mut Source<R>,
+    sink: &mut Sink<W>,
+    job: &BoardJob,
+    kept: &mut Option<Extract>,
+) -> Result<u8, Fault>
+    ensures { IsAnswered R.remaining R.read_errors W.contents W.write_errors W.holds_nothing
+        (IsBoardAnswer job.now) (answering (IsDayRefusal job.now.board.day))
+        source.old source.new sink.old sink.new result }
+{
+    let extract = read_extract(alloc, source, MAX_LINES)?;
+    let extract = kept.insert(extract);
+    let written = write_board(alloc, extract, &job.board, job.format, sink);
+    finish(written, sink, DONE)
+}
+
 /// Writes when the train runs, in this listing, and answers status 0.
 pub fn answer_train<R: ReadDevice, W: WriteDevice>(
     alloc: Global,
@@ -367,6 +385,7 @@ fn answer<R: ReadDevice, W: WriteDevice>(
             answer_canonical(alloc, source, sink, &job.canonical, output, &mut kept.left)
         }
         Job::Calendar(job) => answer_calendar(alloc, source, sink, job, &mut kept.left),
+        Job::Board(job) => answer_board(alloc, source, sink, job, &mut kept.left),
     }
 }
 

@@ -7,8 +7,9 @@ ghost use Rattle.cif_tool.specs.CommandLine.{AreChoices, IsCommand, argument, ch
 
 use crate::help;
 use Argument::{
-    All, Common, Date, DropClashes, File, Form, Format, FromDate, Full, Holidays, InSequence, Left,
-    Lenient, Right, Stops, Table, TableFormat, ToDate, Uid, Updates, Verbose,
+    All, CallingAt, Common, Date, DropClashes, File, Form, Format, FromDate, Full, Holidays,
+    InSequence, Left, Lenient, Place, Right, Stops, Table, TableFormat, ToDate, Uid, Updates,
+    Verbose, Winners, WinnersFormat,
 };
 use clap::{Arg, ArgAction, ArgMatches, Command};
 use std::alloc::{AllocError, Global};
@@ -30,12 +31,16 @@ enum Syntax {
     Name,
     /// By `--ID YYMMDD`.
     Date,
+    /// By `--ID PLACE`.
+    Place,
     /// By `--ID FORM`.
     Form,
     /// By `--ID FORMAT`, where text is the default.
     Format,
     /// By `--ID FORMAT`, where a table in TSV is the default.
     TableFormat,
+    /// By `--ID FORMAT`, where no table may be wanted.
+    WinnersFormat,
     /// By a word that may not be left out, and names a table.
     Table,
 }
@@ -58,12 +63,16 @@ enum Argument {
     Stops,
     Holidays,
     DropClashes,
+    Winners,
+    WinnersFormat,
     Lenient,
     InSequence,
     Form,
     Format,
     TableFormat,
     Table,
+    Place,
+    CallingAt,
 }
 
 impl Argument {
@@ -87,12 +96,16 @@ impl Argument {
             Stops => ("stops", Syntax::Flag, help::STOPS),
             Holidays => ("holidays", Syntax::Name, help::HOLIDAYS),
             DropClashes => ("drop-clashes", Syntax::Flag, help::DROP_CLASHES),
+            Winners => ("winners", Syntax::Flag, help::WINNERS),
+            WinnersFormat => ("format", Syntax::WinnersFormat, help::WINNERS_FORMAT),
             Lenient => ("lenient", Syntax::Flag, help::LENIENT),
             InSequence => ("in-sequence", Syntax::Flag, help::IN_SEQUENCE),
             Form => ("form", Syntax::Form, help::FORM),
             Format => ("format", Syntax::Format, help::FORMAT),
             TableFormat => ("format", Syntax::TableFormat, help::TABLE_FORMAT),
             Table => ("TABLE", Syntax::Table, help::TABLES),
+            Place => ("PLACE", Syntax::Required, help::PLACE),
+            CallingAt => ("calling-at", Syntax::Place, help::CALLING_AT),
         }
     }
 }
@@ -145,6 +158,7 @@ fn arg_of<'a>(alloc: Global, given: (&'a str, Syntax, &'a str), choices: &Choice
         Syntax::Verbose => flag(arg.short('v'), id),
         Syntax::Name => option(arg, id, "FILE"),
         Syntax::Date => option(arg, id, "YYMMDD"),
+        Syntax::Place => option(arg, id, "PLACE"),
         Syntax::Form => one_of_or(option(arg, id, "FORM"), choices.forms, "2"),
         // Help would have these, and the names of tables, in a line of more than 80 columns.
         Syntax::Format => one_of_or(
@@ -153,6 +167,7 @@ fn arg_of<'a>(alloc: Global, given: (&'a str, Syntax, &'a str), choices: &Choice
             "text",
         ).hide_possible_values(true),
         Syntax::TableFormat => one_of_or(option(arg, id, "FORMAT"), choices.table_formats, "tsv"),
+        Syntax::WinnersFormat => option(arg, id, "FORMAT").value_parser(choices.table_formats),
         Syntax::Table => arg
             .required(true)
             .value_parser(choices.tables)
@@ -209,7 +224,7 @@ fn with_parts<'a>(
 }
 
 /// All subcommands, in the order of the help.
-static SUBCOMMANDS: [Parts<'static>; 12] = [
+static SUBCOMMANDS: [Parts<'static>; 14] = [
     (
         "normalise",
         help::NORMALISE,
@@ -257,9 +272,19 @@ static SUBCOMMANDS: [Parts<'static>; 12] = [
         &[Verbose, Uid, File, FromDate, ToDate, Format],
     ),
     (
+        "departures",
+        help::DEPARTURES,
+        &[Verbose, Place, Date, File, CallingAt, Format],
+    ),
+    (
+        "arrivals",
+        help::ARRIVALS,
+        &[Verbose, Place, Date, File, Format],
+    ),
+    (
         "prepare",
         help::PREPARE,
-        &[Verbose, File, Holidays, DropClashes],
+        &[Verbose, File, Holidays, DropClashes, Winners, WinnersFormat],
     ),
     (
         "update",

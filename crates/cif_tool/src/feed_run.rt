@@ -3,6 +3,7 @@ ghost use Rattle.std.specs.Prelude.{◌≡◌, IfErr};
 ghost use Rattle.cif_canon.specs.Appended.{IsAppended};
 ghost use Rattle.cif_feed.specs.FeedAnswer.{AreUpdatesRead, FeedAnswers, IsHandedOn, IsPrepareAnswer, IsPrepareFault, IsPreparedInTurn};
 ghost use Rattle.cif_feed.specs.FeedAnswer.{IsReported, IsUpdateAnswer, IsUpdateFault, OfHolidays, OfUpdates, prepare_reported, reported_of};
+ghost use Rattle.cif_feed.specs.WinnersAnswer.{AreWinnersInTurn, IsWinnersAnswer, IsWinnersRefusal};
 ghost use Rattle.cif_tool.specs.Reported.{dropped_line, feed_status_of, prepared_line, refused_line, unreached_line, waived_line};
 ghost use Rattle.cif_tool.specs.Reported.{reported_by_prepare, reported_by_update, reported_status};
 
@@ -13,8 +14,9 @@ use cif_canon::writing::{Texts, append, write_each};
 use cif_columns::{ReadDevice, Sink, Source, WriteDevice};
 use cif_feed::{
     DoneUpdate, Dropped, DroppedKey, FeedFault, KeptPrepare, KeptUpdate, RefusedLine, Unreached,
-    answer_prepare, answer_update,
+    answer_prepare, answer_update, answer_winners,
 };
+use cif_rows::Format;
 use std::alloc::Global;
 
 /// Writes the prepared extract of what the source gives, with the holidays that the other source gives, if there is
@@ -46,6 +48,53 @@ pub fn run_prepare<R: ReadDevice, W: WriteDevice, E: WriteDevice>(
         holidays: None,
     };
     let answer = answer_prepare(alloc, holidays, source, sink, job.drop_clashes, &mut kept);
+    let status = end_prepare(&answer, &kept, errors);
+    Ended {
+        answer,
+        status,
+        kept,
+    }
+}
+
+/// Writes which published record decides on each date of each train, in this format, of what the source gives, with the
+/// holidays that the other source gives, if there is one. What goes to `errors` is as of `run_prepare`.
+pub fn run_winners<R: ReadDevice, W: WriteDevice, E: WriteDevice>(
+    alloc: Global,
+    job: &PrepareJob,
+    format: Format,
+    holidays: &mut Option<Source<R>>,
+    source: &mut Source<R>,
+    sink: &mut Sink<W>,
+    errors: &mut Sink<E>,
+) -> Ended<Result<Dropped, FeedFault>, KeptPrepare>
+    ensures answer { FeedAnswers W.contents W.write_errors (prepare_reported result.kept)
+        (λ text reported. OfHolidays R.remaining
+        (λ given bytes. IsReported (IsWinnersAnswer job.now.drop_clashes format given bytes text) reported)
+        holidays.old source.old) sink.old sink.new result.answer }
+    ensures fault { OfHolidays R.remaining
+        (λ given bytes. IfErr result.answer (IsWinnersRefusal job.now.drop_clashes given bytes))
+        holidays.old source.old }
+    ensures reads { AreWinnersInTurn R.remaining R.read_errors job.now.drop_clashes
+        holidays.old holidays.new source.old source.new result.answer }
+    ensures handed_on { IsHandedOn W.holds_nothing sink.new result.answer }
+    ensures reported { IsAppended E.contents E.write_errors (reported_by_prepare result.answer result.kept)
+        errors.old errors.new }
+    ensures status { result.status ≡ reported_status result.answer }
+{
+    let mut kept = KeptPrepare {
+        extract: None,
+        holidays: None,
+    };
+    let drop_clashes = job.drop_clashes;
+    let answer = answer_winners(
+        alloc,
+        holidays,
+        source,
+        sink,
+        drop_clashes,
+        format,
+        &mut kept,
+    );
     let status = end_prepare(&answer, &kept, errors);
     Ended {
         answer,

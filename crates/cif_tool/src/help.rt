@@ -236,6 +236,43 @@ Statuses:
   3  the input is refused, or the dates asked for don't fit its window
   4  reading or writing failed, or memory ran out";
 
+pub(crate) const DEPARTURES: &str = "\
+Lists what leaves from a place on a date
+Prints a line for each call at which riders may get on, by the time of day:
+  TIME PLATFORM OPERATOR IDENTITY UID DESTINATION
+PLACE is a TIPLOC or a CRS code, in capitals or not. Times and the date are those
+of the clock: a train of the evening before that calls after midnight is there.
+With --calling-at only trains are listed on which riders may get off at that
+place later, with the time there after the first. --format tsv prints a table
+instead, with field names in the first line, in which the date on which the train
+runs stands too, and --format json an object a line.
+
+Examples:
+  cif departures EUS 2026-06-05 extract.cif
+  cif departures --calling-at MKC EUS 2026-06-05 extract.cif
+
+Statuses:
+  0  success, even if nothing leaves
+  2  a usage error
+  3  the input is refused, or the date isn't in its window
+  4  reading or writing failed, or memory ran out";
+
+pub(crate) const ARRIVALS: &str = "\
+Lists what arrives at a place on a date
+Prints a line for each call at which riders may get off, by the time of day:
+  TIME PLATFORM OPERATOR IDENTITY UID ORIGIN
+PLACE is a TIPLOC or a CRS code, in capitals or not. Times, the date and --format
+are as in `cif departures`.
+
+Example:
+  cif arrivals EUS 2026-06-05 extract.cif
+
+Statuses:
+  0  success, even if nothing arrives
+  2  a usage error
+  3  the input is refused, or the date isn't in its window
+  4  reading or writing failed, or memory ran out";
+
 pub(crate) const PREPARE: &str = "\
 Turns a published extract into one that all commands read
 Prints an extract in which the same runs on each date of the window, without
@@ -254,10 +291,16 @@ With --drop-clashes nothing of a train or an association runs on the dates on
 which it has a clash, and standard error names these: the first, and how many
 more there are.
   cif: dropped: train [UID] on YYMMDD and N more dates
+With --winners prints a table in place of the extract, as tsv unless --format
+says json, with the fields uid, first_date, last_date, stp_indicator, wins_from,
+wins_to and days_run: the UID, dates and letter of a published schedule, and
+dates on which it decides what runs, or, with letter C, that nothing does. An
+open end is empty. A clash is refused, unless --drop-clashes is given.
 
 Examples:
   cif prepare --holidays holidays.txt published.cif > extract.cif
   cif prepare --drop-clashes published.cif > extract.cif
+  cif prepare --winners published.cif > winners.tsv
 
 Statuses:
   0  success
@@ -309,6 +352,10 @@ pub(crate) const TABLES: &str =
 
 pub(crate) const DATE: &str = "The date, such as 260114 or 2026-01-14";
 
+pub(crate) const PLACE: &str = "The place: a TIPLOC or a CRS code, such as EUSTON or EUS";
+
+pub(crate) const CALLING_AT: &str = "Only trains that call at PLACE later";
+
 pub(crate) const UID: &str = "The UID of the train: six characters; quote it if it has a space";
 
 pub(crate) const FROM: &str = "First date of the window [default: the header's]";
@@ -326,6 +373,10 @@ pub(crate) const STOPS: &str = "List the calls of each train too";
 pub(crate) const HOLIDAYS: &str = "The dates of the holiday codes; - is standard input";
 
 pub(crate) const DROP_CLASHES: &str = "Leave out what has a clash, on the dates of the clash";
+
+pub(crate) const WINNERS: &str = "Write which published record decides each date";
+
+pub(crate) const WINNERS_FORMAT: &str = "Layout of --winners";
 
 pub(crate) const LENIENT: &str = "Go on if an update doesn't follow, or a line doesn't fit";
 

@@ -8,7 +8,7 @@ use cif_columns::{Day, Sink, Uid, WriteDevice};
 use cif_extract::Fault;
 use cif_feed::Waived;
 use cif_rows::Format;
-use cif_views::{Listing, Table};
+use cif_views::{Board, Listing, Table};
 use cif_weeks::Form;
 use clap::error::ErrorKind;
 use std::alloc::AllocError;
@@ -73,6 +73,8 @@ pub enum Job {
     Table(TableJob),
     /// To show which records of a train win on each date.
     Calendar(CalendarJob),
+    /// To list what leaves from a place on a date, or arrives there.
+    Board(BoardJob),
 }
 
 /// Of which canonical extract `normalise`, `check` and `table` are asked for something.
@@ -144,12 +146,21 @@ pub struct CalendarJob {
     pub format: Format,
 }
 
+/// What `departures` and `arrivals` are asked for.
+#[derive(Clone, Copy)]
+pub struct BoardJob {
+    pub board: Board,
+    pub format: Format,
+}
+
 /// What a command that reads published extracts is asked for.
 #[derive(Clone, Copy)]
 pub enum FeedJob {
     /// To write the prepared extract of a published one, the last input. An input before it has the holidays;
     /// without one there are none.
     Prepare(PrepareJob),
+    /// To write which published record decides on each date of each train, of the same inputs as `Prepare`.
+    Winners(WinnersJob),
     /// To write what updates, one after the other, make of a full published extract, the first input.
     Update(UpdateJob),
 }
@@ -159,6 +170,14 @@ pub enum FeedJob {
 pub struct PrepareJob {
     /// Whether what clashes is left out.
     pub drop_clashes: bool,
+}
+
+/// What `prepare --winners` is asked for.
+#[derive(Clone, Copy)]
+pub struct WinnersJob {
+    /// How the extract is prepared.
+    pub prepare: PrepareJob,
+    pub format: Format,
 }
 
 /// What `update` is asked for.
@@ -179,6 +198,10 @@ pub enum JobFault {
     BadDate,
     /// A word that stands for a UID isn't six bytes from 0x20 to 0x7E.
     BadUid,
+    /// A word that stands for a place isn't 1 to 7 bytes from 0x21 to 0x7E.
+    BadPlace,
+    /// `prepare` is given a format, and not asked for a table.
+    FormatAlone,
     /// Two of these inputs are the standard input.
     StandardInputTwice(Inputs),
     /// Memory ran out.
@@ -195,6 +218,16 @@ pub enum Inputs {
     /// The extracts of `update`.
     Extracts,
 }
+
+/// What `clap` says of an argument that is missing, here of one that another needs.
+const FORMAT_ALONE: &str = "\
+error: the following required arguments were not provided:
+  --winners
+
+Usage: cif prepare --winners --format <FORMAT> [FILE]
+
+For more information, try '--help'.
+";
 
 impl From<AllocError> for JobFault {
     ghost use Rattle.cif_tool.specs.declared.job.JobFault.TheVariants.{Memory};
@@ -245,6 +278,8 @@ impl JobFault {
             JobFault::NoCommand
             | JobFault::BadDate
             | JobFault::BadUid
+            | JobFault::BadPlace
+            | JobFault::FormatAlone
             | JobFault::StandardInputTwice(_) => USAGE_ERROR,
             JobFault::Memory => FAILED,
         }
@@ -259,6 +294,8 @@ impl JobFault {
             JobFault::NoCommand => "cif: no command\n",
             JobFault::BadDate => "cif: bad date\n",
             JobFault::BadUid => "cif: bad UID\n",
+            JobFault::BadPlace => "cif: bad place\n",
+            JobFault::FormatAlone => FORMAT_ALONE,
             JobFault::StandardInputTwice(Inputs::LeftAndRight) => {
                 "cif: LEFT and RIGHT are both standard input\n"
             }

@@ -23,7 +23,7 @@ use crate::advice::DoneJob;
 use crate::answers::run_job;
 use crate::devices::{ExtractInput, NOTHING_WRITTEN, boxed_source, source_of, standard_output};
 use crate::feed_advice::{DonePrepareJob, DoneUpdateJob};
-use crate::feed_run::{run_prepare, run_update};
+use crate::feed_run::{run_prepare, run_update, run_winners};
 use crate::job::{
     FeedJob, InputNames, Job, JobFault, PrepareJob, Request, Task, UpdateJob, run_fault,
 };
@@ -33,6 +33,7 @@ use crate::word_advice::advise_on_word;
 use crate::words::task_of;
 use cif_columns::{Sink, Source};
 use cif_extract::Fault;
+use cif_rows::Format;
 use std::alloc::AllocError;
 use std::io::{ErrorKind, Stderr};
 use std::mem::ManuallyDrop;
@@ -64,7 +65,10 @@ fn run_words(rt: HostRuntime, words: Vec<String>, errors: &mut Sink<Stderr>) -> 
         Ok(request) => {
             let done = match &request.task {
                 Task::Extract(job) => answer_job(rt, job, &request, errors),
-                Task::Feed(FeedJob::Prepare(job)) => prepare(rt, job, &request, errors),
+                Task::Feed(FeedJob::Prepare(job)) => prepare(rt, job, None, &request, errors),
+                Task::Feed(FeedJob::Winners(job)) => {
+                    prepare(rt, &job.prepare, Some(job.format), &request, errors)
+                }
                 Task::Feed(FeedJob::Update(job)) => update(rt, job, &request, errors),
             };
             end(&done, errors)
@@ -131,13 +135,15 @@ fn answer_job(
     Ok(ended.status)
 }
 
-/// Writes the prepared extract of the last input, with the holidays of the one before it, if there is one, and returns the
-/// status to exit with. Memory comes as in `answer_job`.
+/// Writes the prepared extract of the last input, or in this format which published record decides on each date of each train,
+/// with the holidays of the input before it, if there is one, and returns the status to exit with. Memory comes as in
+/// `answer_job`.
 // Inlined, it would keep its inputs on the stack beside those of `update`.
 #[inline(never)]
 fn prepare(
     rt: HostRuntime,
     job: &PrepareJob,
+    winners: Option<Format>,
     request: &Request,
     errors: &mut Sink<Stderr>,
 ) -> Result<u8, Fault> {
@@ -147,7 +153,21 @@ fn prepare(
     let mut source = boxed_source(rt, "", request.inputs.last(), verbosity)?;
     let mut written = NOTHING_WRITTEN;
     let mut output = standard_output(rt, &mut written)?;
-    let ended = run_prepare(alloc, job, &mut holidays, &mut *source, &mut output, errors);
+    let (holidays_in, extract_in) = (&mut holidays, &mut *source);
+    let ended = match winners {
+        None => run_prepare(alloc, job, holidays_in, extract_in, &mut output, errors),
+        Some(format) => {
+            run_winners(
+                alloc,
+                job,
+                format,
+                holidays_in,
+                extract_in,
+                &mut output,
+                errors,
+            )
+        }
+    };
     let ended = ManuallyDrop::new(ended);
     if verbosity.helps() {
         let done_job = DonePrepareJob {

@@ -32,6 +32,15 @@ pub(crate) fn advise_on_word(
                 add_word(word, DATE_WORD, &mut message);
             }
         }
+        JobFault::BadPlace => {
+            if let Some(word) = bad_word(alloc, words, fault, verbosity) {
+                add_word(
+                    word,
+                    "must be a TIPLOC or a CRS code, such as EUSTON or EUS",
+                    &mut message,
+                );
+            }
+        }
         JobFault::Usage { kind: _, text: _ } => match words.get(1).map(String::as_str) {
             Some("-v" | "--verbose") => {
                 message.line("options stand behind the command: cif check --verbose FILE");

@@ -4,23 +4,25 @@ ghost use Rattle.std.specs.Prelude.{MatchOption, String, codes, false, map, opti
 ghost use Rattle.clap.specs.Words.{all_of, first_of, found_of, kind_of, rows_of, subcommand_rows_of};
 ghost use Rattle.cif_columns.specs.DateWord.{IsDateWord};
 ghost use Rattle.cif_tool.specs.CommandLine.{feed_subcommands};
-ghost use Rattle.cif_tool.specs.Job.{Asks, IsAskedBy, IsChosen, IsDateOf, IsRequestChosen};
+ghost use Rattle.cif_tool.specs.Job.{AreBoardWords, Asks, IsAskedBy, IsChosen, IsPlaceIf, IsDateOf, IsFeedChosen, IsRequestChosen};
 ghost use Rattle.cif_tool.specs.Job.{IsTaskChosen, IsUidWord, file_of, form_of, format_of, has_flag, inputs_of, is_standard, listing_of};
 ghost use Rattle.cif_tool.specs.Job.{names_of, required_word, standard_inputs, table_format_of, table_of, waived_of};
-ghost use Rattle.cif_tool.specs.JobFault.{HasBadDate, HasBadWindow, IsAskedFor, IsEnteredFault};
+ghost use Rattle.cif_views.specs.Places.{IsPlaceOf, IsPlaceWord};
+ghost use Rattle.cif_tool.specs.JobFault.{HasBadDate, HasBadGoal, HasBadWindow, IsBoardFault, IsAskedFor, IsEnteredFault};
 ghost use Rattle.cif_tool.specs.JobFault.{IsFaultOf, IsNoUid, IsNoneOf, NamesNoDay, several_of};
 
 use crate::command_line::{all_choices, matches_of};
 use crate::job::{
-    CalendarJob, CanonicalJob, ClashesJob, CompareJob, DayJob, DiffJob, ExplainJob, FeedJob,
-    InputNames, Inputs, Job, JobFault, PrepareJob, Request, TableJob, Task, TrainJob, UpdateJob,
+    BoardJob, CalendarJob, CanonicalJob, ClashesJob, CompareJob, DayJob, DiffJob, ExplainJob,
+    FeedJob, InputNames, Inputs, Job, JobFault, PrepareJob, Request, TableJob, Task, TrainJob,
+    UpdateJob, WinnersJob,
 };
 use crate::message::{Escaped, Verbosity};
 use cif_canon::Asked;
 use cif_columns::{Day, Uid, are_printable};
 use cif_feed::Waived;
 use cif_rows::Format;
-use cif_views::{Listing, Table};
+use cif_views::{Board, BoardKind, Listing, Place, Table};
 use cif_weeks::Form;
 use clap::ArgMatches;
 use clap::error::ErrorKind;
@@ -29,8 +31,8 @@ use std::alloc::{AllocError, Global};
 /// What the words of a call ask for, of which the first is the program's name.
 ///
 /// `Usage` comes where `clap` refuses the words, or where they ask for help or for the version;
-/// else `BadUid` where a UID is no UID, else `BadDate` where a date is no date, and else
-/// `StandardInputTwice` where two inputs are the standard input; `Memory` where memory ran out, in
+/// else `BadUid` where a UID is no UID, else `BadPlace` if PLACE is no place, else `BadDate` where a date is no date,
+/// else `BadPlace` if that of `--calling-at` is none, and else `StandardInputTwice` where two inputs are the standard input; `Memory` where memory ran out, in
 /// `clap` or in this call itself.
 // Inlined, it would keep `clap`'s 25 KiB on the stack while the job is done.
 #[inline(never)]
@@ -44,7 +46,7 @@ pub fn task_of(alloc: Global, words: Vec<String>) -> Result<Request, JobFault>
     }
 }
 
-/// The first word that should name a date, or the UID, and doesn't, as `fault` says; none where
+/// The first word that should name a date or a place, or the UID, and doesn't, as `fault` says; none where
 /// `--verbose` isn't among the words, and a terminal gets no help.
 #[inline(never)]
 pub(crate) fn bad_word<'a>(
@@ -57,6 +59,7 @@ pub(crate) fn bad_word<'a>(
         Ok(matches) => match matches.subcommand() {
             Some((_, inner)) if verbosity.helps() || has_flag(inner, "verbose") => match fault {
                 JobFault::BadUid => word_of(inner, "UID"),
+                JobFault::BadPlace => bad_place(inner),
                 _ => bad_date(inner),
             },
             _ => None,
@@ -70,6 +73,17 @@ fn bad_date<'a>(matches: &ArgMatches<'a>) -> Option<&'a str> {
     for id in ["YYMMDD", "from", "to"] {
         match word_of(matches, id) {
             Some(word) if day_of_word(word).is_none() => return Some(word),
+            _ => {}
+        }
+    }
+    None
+}
+
+/// The first word that should be a place and isn't.
+fn bad_place<'a>(matches: &ArgMatches<'a>) -> Option<&'a str> {
+    for id in ["PLACE", "calling-at"] {
+        match word_of(matches, id) {
+            Some(word) if Place::of_word(word.as_bytes()).is_none() => return Some(word),
             _ => {}
         }
     }
@@ -135,13 +149,30 @@ fn named_task(name: &str, matches: &ArgMatches<'_>) -> Result<Task, JobFault>
     ensures { IsAskedFor IsTaskChosen (name.now, rows_of (found_of matches.now)) result }
 {
     match name {
-        "prepare" => Ok(Task::Feed(FeedJob::Prepare(PrepareJob {
-            drop_clashes: has_flag(matches, "drop-clashes"),
-        }))),
+        "prepare" => Ok(Task::Feed(prepare_job(matches)?)),
         "update" => Ok(Task::Feed(FeedJob::Update(UpdateJob {
             waived: waived_of(matches),
         }))),
         _ => Ok(Task::Extract(named_job(name, matches)?)),
+    }
+}
+
+/// What `prepare` is asked for: the prepared extract, or a table of its winners.
+fn prepare_job(matches: &ArgMatches<'_>) -> Result<FeedJob, JobFault>
+    ensures { IsAskedFor IsFeedChosen (codes "prepare", rows_of (found_of matches.now)) result }
+{
+    let prepare = PrepareJob {
+        drop_clashes: has_flag(matches, "drop-clashes"),
+    };
+    if has_flag(matches, "winners") {
+        return Ok(FeedJob::Winners(WinnersJob {
+            prepare,
+            format: table_format_of(matches),
+        }));
+    }
+    match word_of(matches, "format") {
+        Some(_) => Err(JobFault::FormatAlone),
+        None => Ok(FeedJob::Prepare(prepare)),
     }
 }
 
@@ -171,6 +202,8 @@ fn named_job(name: &str, matches: &ArgMatches<'_>) -> Result<Job, JobFault>
             asked: asked_of(matches)?,
             format: format_of(matches),
         })),
+        "departures" => Ok(Job::Board(board_job(BoardKind::Departures, matches)?)),
+        "arrivals" => Ok(Job::Board(board_job(BoardKind::Arrivals, matches)?)),
         _ => {
             let asked = asked_of(matches)?;
             let canonical = canonical_job(asked, matches);
@@ -196,6 +229,25 @@ fn named_job(name: &str, matches: &ArgMatches<'_>) -> Result<Job, JobFault>
             }
         }
     }
+}
+
+/// The board of this kind that the words ask for.
+fn board_job(kind: BoardKind, matches: &ArgMatches<'_>) -> Result<BoardJob, JobFault>
+    ensures ok { IfOk result (λ job. (job.board.kind ≡ kind) × AreBoardWords (rows_of (found_of matches.now)) job) }
+    ensures err { IfErr result (IsBoardFault (rows_of (found_of matches.now))) }
+{
+    let place = place_of(matches)?;
+    let day = day_of(matches)?;
+    let calling_at = calling_at_of(matches)?;
+    Ok(BoardJob {
+        board: Board {
+            kind,
+            place,
+            calling_at,
+            day,
+        },
+        format: format_of(matches),
+    })
 }
 
 /// The window that is asked for, with the form that the words name.
@@ -372,6 +424,33 @@ fn uid_of(matches: &ArgMatches<'_>) -> Result<Uid, JobFault>
     match <[u8; 6]>::try_from(required_word(matches, "UID").as_bytes()) {
         Ok(columns) if are_printable(&columns) => Ok(Uid::read(&columns)),
         _ => Err(JobFault::BadUid),
+    }
+}
+
+/// The place that the word PLACE is.
+fn place_of(matches: &ArgMatches<'_>) -> Result<Place, JobFault>
+    ensures ok { IfOk result (IsPlaceOf (required_word (codes "PLACE") (rows_of (found_of matches.now)))) }
+    ensures err { IfErr result (λ fault. (fault ≡ JobFault.BadPlace)
+        × ¬ IsPlaceWord (required_word (codes "PLACE") (rows_of (found_of matches.now)))) }
+{
+    match Place::of_word(required_word(matches, "PLACE").as_bytes()) {
+        Some(place) => Ok(place),
+        None => Err(JobFault::BadPlace),
+    }
+}
+
+/// The place that the word of `--calling-at` is, if there is such a word.
+fn calling_at_of(matches: &ArgMatches<'_>) -> Result<Option<Place>, JobFault>
+    ensures ok { IfOk result (IsPlaceIf (first_of (codes "calling-at") (rows_of (found_of matches.now)))) }
+    ensures err { IfErr result (λ fault. (fault ≡ JobFault.BadPlace)
+        × HasBadGoal (rows_of (found_of matches.now))) }
+{
+    match word_of(matches, "calling-at") {
+        Some(word) => match Place::of_word(word.as_bytes()) {
+            Some(place) => Ok(Some(place)),
+            None => Err(JobFault::BadPlace),
+        },
+        None => Ok(None),
     }
 }
 

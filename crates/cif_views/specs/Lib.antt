@@ -1,11 +1,14 @@
 pub mod AllFields
+pub mod Boards
 pub mod Calls
 pub mod Clashes
+pub mod ClockTimes
 pub mod DateCalendar
 pub mod DifferenceTable
 pub mod Explanation
 pub mod Listing
 pub mod Moments
+pub mod Places
 pub mod PublicCalls
 pub mod RowsOfDifferences
 pub mod SameTables

@@ -1,5 +1,6 @@
 -- What the contracts of the code's own steps speak of. Of public functions `write_table` cites PublicCalls, and a law says what these
 -- are. So nothing here has to be believed.
+pub mod Boards
 pub mod Clashes
 pub mod Explanation
 pub mod Columns

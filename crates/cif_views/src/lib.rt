@@ -2,6 +2,9 @@
 //! clash, and what runs, as text or as tables.
 #![tactic(auto)]
 
+mod board;
+mod board_text;
+mod boards;
 mod calendar_dates;
 mod calendar_weeks;
 mod calls;
@@ -15,9 +18,13 @@ mod line_fields;
 mod listing;
 mod marks;
 mod moment;
+mod places;
 mod public_calls;
+mod public_stop;
 mod tables;
 
+pub use board::{Board, BoardKind};
+pub use boards::write_board;
 pub use calendar_dates::date_calendar;
 pub use calendar_weeks::week_calendar;
 pub use clash_list::Clashes;
@@ -25,4 +32,5 @@ pub use difference_table::write_difference_table;
 pub use explanation::{explain_listing, explain_view};
 pub use find_clashes::clashes;
 pub use listing::{Listing, day_listing, train_listing};
+pub use places::Place;
 pub use tables::{Table, write_table};

@@ -3,6 +3,7 @@ ghost use Rattle.std.specs.Prelude.{◌≡◌, ◌<◌, ◌≤◌, ◌+◌, ◌-
 ghost use Rattle.cif_columns.specs.Digits.{two_digits};
 ghost use Rattle.cif_rows.specs.{Adds.Adds, Row.named, Steps.field_text, declared.shape.Shape.TheVariants.Whole};
 ghost use Rattle.cif_views.specs.Moments.{IsBy, IsOnTheWay, in_day_from, midnight, time_text};
+ghost use Rattle.cif_views.specs.ClockTimes.{by_the_clock};
 
 use arrayvec::ArrayString;
 use cif_columns::{Sink, WriteDevice, as_text, digits_of};
@@ -26,7 +27,7 @@ const FIRST_DAY: u128 = 1 << 64;
 const LONGEST_TIME: usize = 47;
 
 /// A time of day. A clause sees its seconds from midnight.
-#[derive(Clone, Copy)]
+#[derive(Clone, Copy, PartialEq, Eq, PartialOrd, Ord)]
 pub(crate) struct TimeOfDay {
     seconds: u32,
 }
@@ -51,6 +52,21 @@ impl TimeOfDay {
     {
         TimeOfDay { seconds }
     }
+
+    /// The time HH:MM:SS.
+    pub(crate) fn write(self) -> [u8; 8]
+        ensures { result ≡ time_text self }
+    {
+        clock_text((self.seconds / 3_600) as u8, self.seconds)
+    }
+}
+
+/// When a moment is by the clock.
+#[derive(Clone, Copy)]
+pub(crate) struct ClockTime {
+    /// How many midnights it is after the date on which the train runs.
+    pub(crate) midnights: u128,
+    pub(crate) time: TimeOfDay,
 }
 
 /// A moment of a journey. A clause sees it in seconds from the midnight from which moments are counted.
@@ -132,6 +148,19 @@ impl Moment {
             other
         } else {
             self
+        }
+    }
+
+    /// When it is by the clock.
+    pub(crate) fn by_the_clock(self) -> ClockTime
+        requires { midnight ≤ self }
+        ensures { result ≡ by_the_clock self }
+    {
+        ClockTime {
+            midnights: self.day - FIRST_DAY,
+            time: TimeOfDay {
+                seconds: self.seconds,
+            },
         }
     }
 

@@ -1,20 +1,23 @@
 //! The public calls of a schedule, as rows of a table.
-ghost use Rattle.std.specs.Prelude.{◌≡◌, ◌<◌, ◌≤◌, ◌+◌, ◌^◌, ◌++◌, ◌∷◌, [], ℕ, IfSome, List, codes, cond, length, map};
+ghost use Rattle.std.specs.Prelude.{◌≡◌, ◌<◌, ◌≤◌, ◌+◌, ◌^◌, ◌++◌, ◌∷◌, [], ℕ, IfOk, IfSome, List, OnOk, codes, cond, length, map};
 ghost use Rattle.cif_columns.specs.{Activities.codes_in, Field.columns_from};
 ghost use Rattle.std.specs.List.{flat_map};
 ghost use Rattle.cif_rows.specs.{Adds.Adds, Appended.IsAppended, Row.all_named, Row.named, Row.row_text, Steps.field_text};
 ghost use Rattle.cif_rows.specs.Steps.{fields_text};
+ghost use Rattle.cif_views.specs.Boards.{stop_of};
 ghost use Rattle.cif_views.specs.Moments.{IsBy, IsOnTheWay};
 ghost use Rattle.cif_views.specs.PublicCalls.{advertised, answer_of, pick_up, platform_in, public_fields, riders_in, riders_of};
 ghost use Rattle.cif_views.specs.PublicCalls.{said_by, set_down, times_in, times_of, working};
-ghost use Rattle.cif_views.specs.Steps.PublicCalls.{at_first, public_from, reached_moment, shown_at, stay, step, step_at};
+ghost use Rattle.cif_views.specs.Steps.PublicCalls.{at_first, public_call, public_from, reached_moment, shown_at, stay, step, step_at};
 ghost use Rattle.cif_views.specs.Steps.PublicRows.{IsJourneyBy, IsStayBy, IsToShow, joined, public_values, row_of_step, shown_in};
 ghost use Rattle.cif_views.specs.Tables.{is_call, kind_of_line, names, numbered_from, row_of};
 
 use crate::columns::{JourneyKind, call_after, kind_of_line};
 use crate::moment::{Moment, TimeOfDay};
+use crate::public_stop::PublicStop;
 use cif_columns::{Line, LineSlice, PublicTime, Sink, WorkTime, WriteDevice, columns_at};
 use cif_rows::{Numeral, Padding, RowFormat, Rows, Shape};
+use std::alloc::{AllocError, Global};
 
 /// The times of day of a call: the working times, and the public ones.
 #[derive(Clone, Copy)]
@@ -385,6 +388,89 @@ fn write_step<F: RowFormat, W: WriteDevice>(
     next
 }
 
+/// A public call with this line, as a board shows it.
+fn stop_of(call: usize, line: &Line, public: &PublicCall<'_>) -> PublicStop
+    requires times { public.now.times.now ≡ times_of line.now }
+    requires riders { public.now.riders ≡ riders_of line.now }
+    requires shown { IsToShow public.now.shown }
+    ensures { result ≡ stop_of (record {
+      call = record { schedule = 1; call = call; line = line.now };
+      arrival = public.now.shown.arrival;
+      departure = public.now.shown.departure;
+    }) }
+{
+    let (set_down, pick_up) = answers_of(&public.riders, public.times);
+    PublicStop {
+        call,
+        location: columns_at(line, 3),
+        platform: platform_of(kind_of_line(line), line),
+        arrival: public.shown.arrival.by_the_clock(),
+        departure: public.shown.departure.by_the_clock(),
+        gets_off: set_down != b'1',
+        gets_on: pick_up != b'1',
+    }
+}
+
+/// Adds the line, if it is a public call. The journey goes on after it, and the number of the next call is returned.
+fn add_stop(
+    stops: &mut Vec<PublicStop>,
+    journey: &mut Journey,
+    call: usize,
+    line: &Line,
+) -> Result<usize, AllocError>
+    requires by { (n : ℕ) × (n ≤ 2 ^ 64) × IsJourneyBy n journey.old }
+    requires call { call ≤ 2 ^ 63 }
+    ensures stops { OnOk result (stops.new.items ≡ stops.old.items
+        ++ map stop_of (public_call (record { schedule = 1; call = call; line = line.now }) (step_at journey.old line.now).1)) }
+    ensures journey { journey.new ≡ (step_at journey.old line.now).0 }
+    ensures by { (n : ℕ) → IsJourneyBy n journey.old → IsJourneyBy (n + 2) journey.new }
+    ensures next { IfOk result (λ next. next ≡ cond (is_call (kind_of_line line.now)) (call + 1) call) }
+{
+    let kind = kind_of_line(line);
+    let times = CallTimes::of(kind, line);
+    if let Some((shown, riders)) = journey.step(&times, kind, line) {
+        let public = PublicCall {
+            times: &times,
+            riders,
+            shown,
+        };
+        stops.push(stop_of(call, line, &public))?;
+    }
+    Ok(call_after(call, kind))
+}
+
+/// The public calls of a train with these lines.
+pub(crate) fn public_stops(
+    alloc: Global,
+    lines: LineSlice<'_>,
+) -> Result<Vec<PublicStop>, AllocError>
+    ensures { IfOk result (λ stops. stops.items ≡ map stop_of (public_from at_first (numbered_from 1 1 lines.entry))) }
+{
+    let mut stops = Vec::new(alloc);
+    let mut journey = Journey {
+        left: None,
+        shown: Moment::on_date(TimeOfDay::new(0)),
+    };
+    let mut call = 1;
+    let mut lines = lines;
+    lines.are_few();
+    while !lines.is_empty() {
+        call = add_stop(&mut stops, &mut journey, call, &lines.first())?;
+        lines = lines.rest();
+    }
+    Ok(stops)
+}
+
+/// The columns of the platform of a call.
+fn platform_of(kind: JourneyKind, line: &Line) -> [u8; 3]
+    ensures { result ≡ (platform_in kind line.now).1 }
+{
+    match kind {
+        JourneyKind::Stop => columns_at(line, 34),
+        _ => columns_at(line, 20),
+    }
+}
+
 /// Adds the platform of a call.
 fn push_platform<F: RowFormat, W: WriteDevice>(
     rows: &mut Rows<F>,
@@ -395,10 +481,7 @@ fn push_platform<F: RowFormat, W: WriteDevice>(
     ensures { Adds W.contents W.write_errors (field_text F.FORMAT (named (codes "platform") (platform_in kind line.now)))
         sink.old sink.new rows.old rows.new }
 {
-    let platform = match kind {
-        JourneyKind::Stop => columns_at::<3>(line, 34),
-        _ => columns_at::<3>(line, 20),
-    };
+    let platform = platform_of(kind, line);
     rows.push(sink, "platform", Padding::Apart, Shape::Trimmed, &platform);
 }
 

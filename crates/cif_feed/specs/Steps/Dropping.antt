@@ -6,10 +6,12 @@ use Rattle.cif_extract.specs.{ExtractParts.ExtractParts, declared.fault.Clash.Cl
 use Rattle.cif_extract.specs.declared.fault.Clash.TheVariants as clash
 use Rattle.cif_records.specs.{AssocKey.key_cmp, declared.association.AssocKey.AssocKey}
 use Rattle.cif_feed.specs.Dropped.{AreClashDays, AreKeysWithDays, reported_as}
-use Rattle.cif_feed.specs.{Prepared.ArePrepared, Published.IsHolidayOf, Published.PublishedTerms}
-use Rattle.cif_feed.specs.PublishedParts.{PublishedParts, published_associations, published_schedules}
+use Rattle.cif_feed.specs.{CutCount.AppliesOnAny, CutCount.IsCountOf, Prepared.ArePrepared, Published.IsHolidayOf, Published.PublishedTerms}
+use Rattle.cif_feed.specs.PublishedParts.{PublishedParts, published_association_terms, published_associations, published_schedule_terms}
+use Rattle.cif_feed.specs.PublishedParts.{published_schedules}
 use Rattle.cif_feed.specs.declared.{dropped.DroppedKey.DroppedKey, holidays.HolidayCode.HolidayCode, holidays.Holidays.Holidays}
-use Rattle.cif_feed.specs.declared.{prepared_record.RisingDays.RisingDays}
+use Rattle.cif_feed.specs.declared.{prepared_record.RisingDays.RisingDays, published_extract.PublishedAssociation.PublishedAssociation}
+use Rattle.cif_feed.specs.declared.{published_extract.PublishedSchedule.PublishedSchedule}
 
 -- the days that were found for what stands for a key, if any were
 abbrev pub days_in : Option RisingDays → List ℕ
@@ -79,3 +81,16 @@ pub record IsCutAt (h : Holidays) (p : PublishedParts) (associations : AssocKey 
   pub cut_associations : ArePrepared (IsStopAmong h associations) p.header.last (published_associations p.associations)
       (association_entries x.associations)
   pub cut_schedules : ArePrepared (IsStopAmong h trains) p.header.last (published_schedules p.schedules) (schedule_entries x.schedules)
+
+-- So many of the published associations and schedules apply on a day that is found for their key.
+pub record AreCounted (h : Holidays) (p : PublishedParts) (associations : AssocKey → Option RisingDays) (trains : ℕ → Option RisingDays)
+    (n : ℕ) : Type 0 where
+  pub one : ℕ
+  pub other : ℕ
+  pub both : n ≡ one + other
+  pub of_associations : (days : AssocKey → List ℕ) → ReadsAssociations days associations
+      → IsCountOf (λ (a : PublishedAssociation). AppliesOnAny (Contains (days a.association.key)) h p.header.last
+      (published_association_terms a)) p.associations one
+  pub of_trains : (days : List ℕ → List ℕ) → ReadsTrains days trains
+      → IsCountOf (λ (s : PublishedSchedule). AppliesOnAny (Contains (days s.schedule.uid)) h p.header.last
+      (published_schedule_terms s)) p.schedules other

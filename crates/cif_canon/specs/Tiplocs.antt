@@ -1,4 +1,4 @@
--- The locations of a canonical extract. No public clause cites them.
+-- The locations of a canonical extract.
 use Rattle.std.specs.Prelude.{◌≡◌, ◌↔◌, List, AllPairs, Contains}
 use Rattle.std.specs.{Cmp.Lexicographic.slice_cmp, Ordering.nat_cmp, declared.cmp.Ordering.TheVariants.Less}
 use Rattle.cif_records.specs.declared.tiploc.Tiploc.{Tiploc}

@@ -1,0 +1,2 @@
+-- Laws that an impl of a trait cites.
+pub mod Deciding

@@ -1,0 +1,31 @@
+-- A call that passes is the first; one that fails is passed over.
+use Rattle.cif_views.proofs.Names.{Bool, None, Option, Some, ap, at_drop_all, drop, find, if◌then◌else◌, refl, sym, ◌+◌, ◌∙◌}
+use Rattle.std.proofs.lemmas.List.{at_drop_more}
+use Rattle.cif_views.specs.declared.public_stop.PublicStop.{PublicStop}
+use Rattle.cif_views.proofs.boards.first_open.Goals as goal
+
+pub loop-stop-init : goal.loop-stop-init
+loop-stop-init c = refl
+
+pub returns-then-stop : goal.returns-then-stop
+returns-then-stop c =
+    let stop = c.stop-item.result in
+    let i = c.loop-stop.stop-index in
+    let rest = find (λ (s : PublicStop). s.gets_on) (drop (i + 1) c.args.stops.now) in
+    sym (ap (λ (b : Bool). if b then Some stop else rest) (c.if-stop.true))
+    ∙ ap (λ (s : PublicStop). if (λ (s : PublicStop). s.gets_on) s then Some s else rest) c.stop-item.is
+    ∙ sym (at_drop_more (find (λ (s : PublicStop). s.gets_on)) c.args.stops.now i stop c.loop-stop-test.true)
+    ∙ c.loop-stop.invariant
+
+pub loop-stop-preserved : goal.loop-stop-preserved
+loop-stop-preserved c =
+    let stop = c.stop-item.result in
+    let i = c.loop-stop.stop-index in
+    let rest = find (λ (s : PublicStop). s.gets_on) (drop (i + 1) c.args.stops.now) in
+    sym (ap (λ (b : Bool). if b then Some stop else rest) (c.if-stop.false))
+    ∙ ap (λ (s : PublicStop). if (λ (s : PublicStop). s.gets_on) s then Some s else rest) c.stop-item.is
+    ∙ sym (at_drop_more (find (λ (s : PublicStop). s.gets_on)) c.args.stops.now i stop c.loop-stop-test.true)
+    ∙ c.loop-stop.invariant
+
+pub returns : goal.returns
+returns c = sym (at_drop_all (find (λ (s : PublicStop). s.gets_on)) c.args.stops.now c.loop-stop.stop-index c.loop-stop-test.false) ∙ c.loop-stop.invariant
