@@ -4,7 +4,7 @@ from __future__ import annotations
 import sqlite3
 from collections.abc import Iterator
 from contextlib import closing, contextmanager
-from functools import lru_cache
+from functools import cached_property, lru_cache
 from pathlib import Path
 from typing import Any
 from urllib.parse import quote
@@ -54,6 +54,15 @@ class Timetable:
         """The first row of an answer, or None where it has none."""
         return next(iter(self.rows(name, **values)), None)
 
+    def board(self, view: str, place: str, code: str, **values: object) -> list[Row]:
+        """Rows of one of the views `departures` and `arrivals`, in which `place`, `station_crs` or
+        `location`, is this code."""
+        query = statement("board").replace("@BOARD@", view).replace("@PLACE@", place)
+        parameters: Row = {"place": code, **values}
+        found = self.connection.execute(query, parameters)
+        return [dict(row) for row in found]
+
+    @cached_property
     def window(self) -> tuple[str, str]:
         """The first and the last date."""
         [found] = self.rows("window")

@@ -174,6 +174,13 @@ def day_of(day: date, by_date: dict[str, Version], cancelled: set[str]) -> Day:
 # ---- the page
 
 
+def later(day: str, midnights: int | None) -> str | None:
+    """The date by the clock after so many midnights."""
+    if midnights is None:
+        return None
+    return (date.fromisoformat(day) + timedelta(days=midnights)).isoformat()
+
+
 def train_values(timetable: Timetable, uid: str, day: str) -> tuple[dict[str, Any], dict[str, Any]]:
     """The values of the page of a train on a date, and the same as data; nothing if no schedule has
     the UID. The train needn't run on the date."""
@@ -188,10 +195,12 @@ def train_values(timetable: Timetable, uid: str, day: str) -> tuple[dict[str, An
         compare(timetable, nearest, versions)
     row = next((each for each in rows if each["date"] == day), None)
     calls = timetable.rows("train_calls", journey=row["journey"]) if row else []
+    for call in calls:
+        call["date"] = later(day, call["midnights"])
     changes = timetable.rows("train_changes", journey=row["journey"]) if row else []
     links = timetable.rows("associations", uid=uid, date=day) if row else []
     cancelled = {each for each, of in published.items() if of["stp_indicator"] == "C"}
-    window = timetable.window()
+    window = timetable.window
     months = calendar(window, versions, cancelled)
     letters = {each: version.letter for version in versions for each in version.dates}
     values = {
@@ -213,7 +222,7 @@ def train_values(timetable: Timetable, uid: str, day: str) -> tuple[dict[str, An
             call[name] for call in calls for name in ("engineering", "pathing", "performance")
         ),
     }
-    data = {
+    data: dict[str, Any] = {
         "uid": uid,
         "date": day,
         "train": {name: row[name] for name in row if name != "date"} if row else None,
