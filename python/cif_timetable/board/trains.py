@@ -60,7 +60,7 @@ class Version:
 
 @dataclass
 class Day:
-    """A date of the calendar. `kind` is `runs`, `cancelled`, `none`, or `outside` of the window."""
+    """A date of the calendar. `kind` is `runs`, `cancelled` or `none`."""
 
     date: str
     number: int
@@ -144,18 +144,24 @@ def compare(timetable: Timetable, shown: Version, versions: Iterable[Version]) -
 # ---- the calendar
 
 
-def calendar(
-    window: tuple[str, str], versions: Iterable[Version], cancelled: set[str]
-) -> list[tuple[str, list[list[Day | None]]]]:
-    """The months of the window: each by a date of it, and its weeks from Monday to Sunday."""
+def days_in(window: tuple[str, str], versions: Iterable[Version], cancelled: set[str]) -> list[Day]:
+    """All dates of the window."""
     by_date = {day: version for version in versions for day in version.dates}
     first, last = (date.fromisoformat(each) for each in window)
-    days = [
+    return [
         day_of((first + timedelta(days=number)), by_date, cancelled)
         for number in range((last - first).days + 1)
     ]
+
+
+def months_of(days: Sequence[Day], shown: str) -> list[tuple[str, list[list[Day | None]]]]:
+    """The months from the first with a date to the last, and that of the date shown: each by a date
+    of it, and its weeks from Monday to Sunday."""
+    wanted = [day.date[:7] for day in days if day.kind != "none" or day.date == shown]
     months = []
-    for _, group in groupby(days, lambda day: day.date[:7]):
+    for month, group in groupby(days, lambda day: day.date[:7]):
+        if not wanted[0] <= month <= wanted[-1]:
+            continue
         found: list[Day | None] = list(group)
         start = date.fromisoformat(found[0].date).weekday() if found[0] else 0
         cells = [None] * start + found
@@ -201,7 +207,7 @@ def train_values(timetable: Timetable, uid: str, day: str) -> tuple[dict[str, An
     links = timetable.rows("associations", uid=uid, date=day) if row else []
     cancelled = {each for each, of in published.items() if of["stp_indicator"] == "C"}
     window = timetable.window
-    months = calendar(window, versions, cancelled)
+    days = days_in(window, versions, cancelled)
     letters = {each: version.letter for version in versions for each in version.dates}
     values = {
         "uid": uid,
@@ -214,7 +220,7 @@ def train_values(timetable: Timetable, uid: str, day: str) -> tuple[dict[str, An
         "links": links,
         "versions": versions,
         "shown": shown,
-        "months": months,
+        "months": months_of(days, day),
         "dates": sorted(letters),
         "cancelled": sorted(cancelled - letters.keys()),
         "facts": facts_of(row) if row else [],
@@ -236,10 +242,7 @@ def train_values(timetable: Timetable, uid: str, day: str) -> tuple[dict[str, An
                 "version": letters.get(each.date),
                 "stp_indicator": published.get(each.date, {}).get("stp_indicator"),
             }
-            for _, weeks in months
-            for week in weeks
-            for each in week
-            if each
+            for each in days
         ],
         "versions": [
             {"version": each.letter, **{name: each.schedule[name] for name in each.schedule}}
