@@ -91,9 +91,7 @@ def check_kind(counts: Counts, name: str, board: Board, kind: str) -> None:
             order = [(row["time"], row["uid"], row["train_date"], row["number"]) for row in rows]
             counts.same(f"{name}, the order of {kind} at {code} on {day}", sorted(order), order)
             whole.update(map(texts_of, rows))
-    of_days = Counter(
-        {row: count for row, count in wanted.items() if row[0] and row[2] in days}
-    )
+    of_days = Counter({row: count for row, count in wanted.items() if row[0] and row[2] in days})
     counts.same(f"{name}, {kind}", [], sorted((of_days - whole).items())[:3])
     counts.same(f"{name}, surplus {kind}", [], sorted((whole - of_days).items(), key=str)[:3])
     counts.test(f"{name}, some {kind}", whole)
@@ -222,7 +220,10 @@ def check_marks(counts: Counts, made: Made) -> None:
         ]
         for words in wanted:
             counts.test(f"{address}, {uid}: {words}", any(words in row for row in rows), rows)
-    for address, uid in ("/station/ALP/2026-01-06", "E00001"), ("/station/ALP/2026-01-06", "F00001"):
+    for address, uid in ("/station/ALP/2026-01-06", "E00001"), (
+        "/station/ALP/2026-01-06",
+        "F00001",
+    ):
         counts.test(f"{address} without {uid}", uid not in board.get(address))
     passes = board.data("/station/ALP/2026-01-06.json?show=all")["calls"]
     got = [(row["time"], row["train_date"]) for row in passes if row["uid"] == "F00001"]
@@ -230,7 +231,9 @@ def check_marks(counts: Counts, made: Made) -> None:
     want = [("00:00:30", "2026-01-05"), ("23:59:30", "2026-01-06")]
     counts.same("passes on both sides of midnight", want, got)
     text = board.get("/station/ALP/2026-01-05")
-    counts.test("the first date says so", "trains that left the evening before aren’t known" in text)
+    counts.test(
+        "the first date says so", "trains that left the evening before aren’t known" in text
+    )
 
 
 def check_many(counts: Counts, made: Made) -> None:
@@ -240,7 +243,8 @@ def check_many(counts: Counts, made: Made) -> None:
         minute = 300 + number // 2
         time = f"{minute // 60:02}{minute % 60:02}"
         lines.append(
-            f"BSNX{number:05}2601052601111111111 POO1X00    122104000 EMU    090      B".ljust(79) + "P"
+            f"BSNX{number:05}2601052601111111111 POO1X00    122104000 EMU    090      B".ljust(79)
+            + "P"
         )
         lines.append("BX         SRY")
         lines.append(f"LOALPHA   {time} {time}1".ljust(29) + "TB")
@@ -253,14 +257,15 @@ def check_many(counts: Counts, made: Made) -> None:
     ]
     path.write_text("".join(f"{line:80}\n" for line in [*head, *lines, "ZZ"]))
     board = Board(made.database(path), Source(made.program, path))
-    counts.same(
-        "many as JSON", 700, len(board.data("/station/ALP/2026-01-06.json")["departures"])
-    )
+    counts.same("many as JSON", 700, len(board.data("/station/ALP/2026-01-06.json")["departures"]))
     found: List[str] = []
     address: Optional[str] = "/station/ALP/2026-01-06"
     page = board.page(str(address))
     counts.same("many, the first page", 501, len(page.tables["board departures"]))
-    counts.test("many, in words", "The first 500 departures, before 09:10" in squeezed(board.get(str(address))))
+    counts.test(
+        "many, in words",
+        "The first 500 departures, before 09:10" in squeezed(board.get(str(address))),
+    )
     while address:
         page = board.page(address)
         found += [cells[-1].links[0] for cells in page.tables.get("board departures", [[]])[1:]]
@@ -283,4 +288,6 @@ def check(counts: Counts, made: Made) -> None:
     check_rides(counts, made)
     check_marks(counts, made)
     check_many(counts, made)
-    counts.test("JSON keeps its names", json.dumps(tiploc["departures"][0]).startswith('{"station_crs"'))
+    counts.test(
+        "JSON keeps its names", json.dumps(tiploc["departures"][0]).startswith('{"station_crs"')
+    )

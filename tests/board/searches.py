@@ -30,7 +30,7 @@ LEADS: Dict[str, str] = {
 FOUND: Dict[str, List[List[str]]] = {
     "victoria": [["VIC"], [], []],
     "clap": [["CLJ"], [], []],
-    "e": [["ECR", "EBN", "CLJ", "GTW", "HHE", "HOV", "LWS", "LIT", "RDH", "TBD"], ["KEYMERJ"], []],
+    "e": [["ECR", "EBN", "CLJ", "HHE", "HOV", "LWS", "LIT", "VIC", "RDH", "TBD"], ["KEYMERJ"], []],
     "bri": [["BTN", "TBD"], [], []],
     "keymer": [[], ["KEYMERJ"], []],
     "HYWR": [[], ["HYWRDSH"], []],
@@ -56,7 +56,11 @@ def check(counts: Counts, made: Made) -> None:
         data = board.client.get("/.json", query_string={"q": text, "date": "2026-06-05"}).json
         got = [
             [row[name] for row in data[kind]]
-            for kind, name in (("stations", "station_crs"), ("locations", "tiploc"), ("trains", "uid"))
+            for kind, name in (
+                ("stations", "station_crs"),
+                ("locations", "tiploc"),
+                ("trains", "uid"),
+            )
         ]
         counts.same(f"found for {text}", columns, got)
     page = squeezed(board.get("/?q=bri&date=2026-06-05"))

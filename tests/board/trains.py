@@ -18,7 +18,12 @@ CALLS = (
     "record location suffix arrival departure pass public_arrival public_departure platform path line"
     " activities".split()
 )
-ENDS = {"origin": "origin", "departure": "departure", "terminus": "destination", "arrival": "arrival"}
+ENDS = {
+    "origin": "origin",
+    "departure": "departure",
+    "terminus": "destination",
+    "arrival": "arrival",
+}
 # So many trains of an extract are looked at.
 MOST_TRAINS = 25
 
@@ -65,7 +70,10 @@ def check_calls(counts: Counts, name: str, board: Board, uid: str, day: str) -> 
     table = [cells for cells in page.tables["list calls"][2:] if len(cells) > 1]
     times = [tuple(squeezed(cell.text) for cell in cells[1:4]) for cells in table]
     public = [
-        (call["platform"] or "", *(public_text(call[each]) for each in ("public_arrival", "public_departure")))
+        (
+            call["platform"] or "",
+            *(public_text(call[each]) for each in ("public_arrival", "public_departure")),
+        )
         for call in wanted["calls"]
     ]
     counts.same(f"{name}, the calls of {uid} on the page", public, times)
@@ -79,7 +87,9 @@ def check_month(counts: Counts, name: str, board: Board, uid: str, running: List
     """The calendar has a letter on each date on which the train runs, and the same one only where the train is the same."""
     day = running[0] if running else board.dates[0].isoformat()
     page = board.get(address_of(uid, day))
-    found = re.findall(r'<td class="v(\d)[^"]*"><a href="[^"]*/([-0-9]+)"[^>]*><i>(\d+)</i><b>(\w+)</b>', page)
+    found = re.findall(
+        r'<td class="v(\d)[^"]*"><a href="[^"]*/([-0-9]+)"[^>]*><i>(\d+)</i><b>(\w+)</b>', page
+    )
     counts.same(f"{name}, the calendar of {uid}", running, sorted(date for _, date, _, _ in found))
     letters = {date: letter for _, date, _, letter in found}
     if not differ_in_calls_alone(board, uid):
@@ -103,18 +113,51 @@ def differ_in_calls_alone(board: Board, uid: str) -> bool:
     ]
     rows = [row for row in board.expected.schedules.values() if row["uid"] == uid]
     numbers = [row["schedule"] for row in rows]
-    changes = {repr([list(c.values())[1:] for c in board.expected.of_schedule["changes"][n]]) for n in numbers}
+    changes = {
+        repr([list(c.values())[1:] for c in board.expected.of_schedule["changes"][n]])
+        for n in numbers
+    }
     return len({tuple(row[each] for each in names) for row in rows}) == 1 and len(changes) == 1
 
 
 # Of the examples: a train on a date, what its page says of another one, and where that link leads.
 LINKS = [
-    ("W20113", "2026-06-05", "Divides: a portion leaves as 1C22 Haywards Heath to Littlehampton at Haywards Heath", "W20114/2026-06-05"),
-    ("W20114", "2026-06-05", "Divides from 1F22 London Victoria to Eastbourne at Haywards Heath", "W20113/2026-06-05"),
-    ("W20232", "2026-06-05", "Joins 1F53 Eastbourne to London Victoria at Haywards Heath", "W20231/2026-06-05"),
-    ("W20231", "2026-06-05", "Is joined by 1C53 Littlehampton to Haywards Heath at Haywards Heath", "W20232/2026-06-05"),
-    ("W20347", "2026-06-04", "Goes on as 1A02 Brighton to London Victoria at Brighton, of Fri 5 June for operations, not for riders", "W20101/2026-06-05"),
-    ("W20101", "2026-06-05", "Comes from 1A94 London Victoria to Brighton at Brighton, of Thu 4 June for operations, not for riders", "W20347/2026-06-04"),
+    (
+        "W20113",
+        "2026-06-05",
+        "Divides: a portion leaves as 1C22 Haywards Heath to Littlehampton at Haywards Heath",
+        "W20114/2026-06-05",
+    ),
+    (
+        "W20114",
+        "2026-06-05",
+        "Divides from 1F22 London Victoria to Eastbourne at Haywards Heath",
+        "W20113/2026-06-05",
+    ),
+    (
+        "W20232",
+        "2026-06-05",
+        "Joins 1F53 Eastbourne to London Victoria at Haywards Heath",
+        "W20231/2026-06-05",
+    ),
+    (
+        "W20231",
+        "2026-06-05",
+        "Is joined by 1C53 Littlehampton to Haywards Heath at Haywards Heath",
+        "W20232/2026-06-05",
+    ),
+    (
+        "W20347",
+        "2026-06-04",
+        "Goes on as 1A02 Brighton to London Victoria at Brighton, of Fri 5 June for operations, not for riders",
+        "W20101/2026-06-05",
+    ),
+    (
+        "W20101",
+        "2026-06-05",
+        "Comes from 1A94 London Victoria to Brighton at Brighton, of Thu 4 June for operations, not for riders",
+        "W20347/2026-06-04",
+    ),
 ]
 
 
@@ -122,7 +165,13 @@ def check_links(counts: Counts, made: Made) -> None:
     board = made.examples
     for uid, day, words, address in LINKS:
         page = board.get(f"/train/{uid}/{day}")
-        text = squeezed(re.sub("<[^>]*>", "", page.partition('<ul class="links"')[2].partition("</ul>")[0].partition(">")[2]))
+        text = squeezed(
+            re.sub(
+                "<[^>]*>",
+                "",
+                page.partition('<ul class="links"')[2].partition("</ul>")[0].partition(">")[2],
+            )
+        )
         counts.same(f"the associations of {uid}", words, text)
         counts.test(f"the associations of {uid}, the link", f'href="/train/{address}"' in page)
     # each association of each date, from both of its trains
@@ -130,14 +179,26 @@ def check_links(counts: Counts, made: Made) -> None:
         wanted = [row for row in board.cif("day", f"{day:%y%m%d}") if row["kind"] == "AA"]
         for role, other in ("base_uid", "associated_uid"), ("associated_uid", "base_uid"):
             for row in wanted:
-                later = {"N": 1, "P": -1}.get(row["date_indicator"], 0) if role == "associated_uid" else 0
+                later = (
+                    {"N": 1, "P": -1}.get(row["date_indicator"], 0)
+                    if role == "associated_uid"
+                    else 0
+                )
                 date = day.fromordinal(day.toordinal() + later).isoformat()
                 if date > str(board.dates[-1]):
                     continue
                 links = board.data(f"/train/{row[role]}/{date}.json")["associations"]
-                found = [each["other_uid"] for each in links if each["category"] == row["association_category"]]
+                found = [
+                    each["other_uid"]
+                    for each in links
+                    if each["category"] == row["association_category"]
+                ]
                 runs = board.data(f"/train/{row[role]}/{date}.json")["train"] is not None
-                counts.same(f"{row[role]} on {date}", [row[other]] if runs else [], [each for each in found if each == row[other]])
+                counts.same(
+                    f"{row[role]} on {date}",
+                    [row[other]] if runs else [],
+                    [each for each in found if each == row[other]],
+                )
 
 
 def check_words(counts: Counts, made: Made) -> None:
@@ -158,11 +219,18 @@ def check_words(counts: Counts, made: Made) -> None:
     text = squeezed(board.get("/train/W20347/2026-06-06"))
     counts.test("W20347 on a Saturday", "It doesn’t run on Sat 6 June 2026." in text, text)
     data = board.data("/train/W20347/2026-06-06.json")
-    counts.same("W20347 on a Saturday, as JSON", (None, [], 28), (data["train"], data["calls"], len(data["calendar"])))
+    counts.same(
+        "W20347 on a Saturday, as JSON",
+        (None, [], 28),
+        (data["train"], data["calls"], len(data["calendar"])),
+    )
     freight = squeezed(board.get("/train/G31845/2026-05-18"))
     counts.test("a change en route", "From here: identity 6V18, category B4" in freight, freight)
     counts.test("freight", "<strong>not for riders</strong>" in freight)
-    counts.test("as required", "<strong>runs as required</strong>" in made.special.get("/train/Q00001/2026-01-06"))
+    counts.test(
+        "as required",
+        "<strong>runs as required</strong>" in made.special.get("/train/Q00001/2026-01-06"),
+    )
     notes = squeezed(made.special.get("/train/N00001/2026-01-06"))
     counts.test("activities in words", "on request" in notes and "picks up only" in notes, notes)
 
@@ -180,12 +248,22 @@ def check_published(counts: Counts, made: Made) -> None:
     board = Board(path, made.examples.source)
     text = squeezed(board.get("/train/W20402/2026-05-30"))
     counts.test("published", "permanent (P), first date Sat 16 May 2026" in text, text)
-    counts.test("cancelled, in the calendar", '<td class="cancelled"><a href="/train/W20402/2026-05-31"' in text)
+    counts.test(
+        "cancelled, in the calendar",
+        '<td class="cancelled"><a href="/train/W20402/2026-05-31"' in text,
+    )
     counts.test("cancelled, in words", "is cancelled on 1 date" in text, text)
     text = squeezed(board.get("/train/W20402/2026-05-31"))
     counts.test("cancelled on its date", "It is cancelled on Sun 31 May 2026." in text, text)
-    letters = {row["date"]: row["stp_indicator"] for row in board.data("/train/W20402/2026-05-30.json")["calendar"]}
-    counts.same("cancelled, as JSON", ("P", "C", None), tuple(letters[f"2026-05-{day}"] for day in (30, 31, 29)))
+    letters = {
+        row["date"]: row["stp_indicator"]
+        for row in board.data("/train/W20402/2026-05-30.json")["calendar"]
+    }
+    counts.same(
+        "cancelled, as JSON",
+        ("P", "C", None),
+        tuple(letters[f"2026-05-{day}"] for day in (30, 31, 29)),
+    )
 
 
 def texts(row: Dict[str, Any], names: Tuple[str, ...]) -> SqlRow:
@@ -196,7 +274,11 @@ def check_operators(counts: Counts, name: str, board: Board) -> None:
     """Trains a day, on the page in sums."""
     rows = board.data("/operators.json")["trains_per_day"]
     columns = ("date", "operator", "passenger", "as_required", "trains")
-    counts.same(f"{name}, operators", board.expected.trains_per_day(), Counter(texts(row, columns) for row in rows))
+    counts.same(
+        f"{name}, operators",
+        board.expected.trains_per_day(),
+        Counter(texts(row, columns) for row in rows),
+    )
     table = board.page("/operators").tables.get("list", [[]])[1:]
     got = {squeezed(cells[0].text).split(" ")[-1]: squeezed(cells[1].text) for cells in table[1:]}
     by_operator = sorted(rows, key=lambda row: row["operator"] or "")
@@ -216,7 +298,9 @@ def check_extract(counts: Counts, name: str, board: Board) -> None:
     tables = board.expected.tables
     for each in "schedules", "associations":
         counts.same(f"{name}, {each}", len(tables[each]), data[each])
-    counts.same(f"{name}, locations", len({row["tiploc"] for row in tables["tiplocs"]}), data["locations"])
+    counts.same(
+        f"{name}, locations", len({row["tiploc"] for row in tables["tiplocs"]}), data["locations"]
+    )
     counts.same(f"{name}, journeys", len(board.expected.journeys()), data["journeys"])
     text = squeezed(board.get("/extract"))
     counts.test(f"{name}, the extract's reference", header["current_reference"] in text, text)

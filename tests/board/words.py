@@ -27,11 +27,15 @@ LINES: Dict[str, List[str]] = {
 
 def check(counts: Counts) -> None:
     page, text = (TOP / "man" / "cif-board.1").read_text(), help_of("cif-board")
-    counts.test("cif-board --help, width", all(len(line) <= WIDTH for line in text.splitlines()), text)
+    counts.test(
+        "cif-board --help, width", all(len(line) <= WIDTH for line in text.splitlines()), text
+    )
     options = options_of_help(text)
     counts.test("cif-board --help, options", {"-h", "--help"} <= options, options)
     counts.same("cif-board, options for zsh", options, options_of_zsh(completion("_cif-board")))
-    counts.same("cif-board, options for fish", options, options_of_fish(completion("cif-board.fish")))
+    counts.same(
+        "cif-board, options for fish", options, options_of_fish(completion("cif-board.fish"))
+    )
     counts.same("cif-board, options for bash", sorted(options), sorted(offered("cif-board -")))
     counts.same("cif-board, options in cif-board.1", options, options_of_page(page))
     synopsis = page.partition(".Sh SYNOPSIS")[2].partition(".Sh DESCRIPTION")[0]
