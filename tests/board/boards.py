@@ -164,7 +164,7 @@ def check_cif(counts: Counts, name: str, made: Made, board: Board) -> None:
 
 
 # Rides of the examples on Friday 5 June: from, to, and of each the departure, the arrival, the train, and its portion.
-RIDES = {
+RIDES: Dict[str, List[Tuple[str, str, str, Optional[str]]]] = {
     "VIC LIT": [("09:47:00", "11:32:00", "W20113", "W20114")],
     "LIT VIC": [("17:16:00", "19:07:00", "W20232", "W20231")],
     "VIC EBN": [("09:47:00", "11:15:00", "W20113", None)],

@@ -15,7 +15,7 @@ from flask.testing import FlaskClient
 
 from cif_timetable.board import create_app
 from gtfs import generated
-from gtfs.checks import PROGRAMS, TOP, Source
+from gtfs.checks import PROGRAMS, TOP, Source, Word
 from sql.definition import Expected
 
 EXAMPLES = TOP / "examples" / "timetable.cif"
@@ -169,7 +169,13 @@ class Made:
         special, many, sample = (folder / f"{name}.cif" for name in ("special", "many", "sample"))
         special.write_text("".join(f"{line:80}\n" for line in SPECIAL.strip().split("\n")))
         many.write_bytes(generated.extract(random.Random(SEED), GENERATED))
-        words = [cif, "prepare", "--holidays", FEEDS / "holidays.txt", FEEDS / "nrod/toc-full.CIF"]
+        words: List[Word] = [
+            cif,
+            "prepare",
+            "--holidays",
+            FEEDS / "holidays.txt",
+            FEEDS / "nrod/toc-full.CIF",
+        ]
         sample.write_bytes(subprocess.run(words, check=True, capture_output=True).stdout)
         self.boards = {
             path.stem: Board(self.database(path), Source(cif, path))
@@ -180,7 +186,15 @@ class Made:
 
     def database(self, extract: Path, name: str = "") -> Path:
         path = self.folder / (name or f"{extract.stem}.db")
-        words = [PROGRAMS / "cif-sql", "--force", "--cif", self.program, "-o", path, extract]
+        words: List[Word] = [
+            PROGRAMS / "cif-sql",
+            "--force",
+            "--cif",
+            self.program,
+            "-o",
+            path,
+            extract,
+        ]
         subprocess.run(words, check=True, capture_output=True)
         return path
 

@@ -161,7 +161,13 @@ def check_refused(counts: Counts, made: Made) -> None:
         told = error.startswith("cif-board: ") and words in error and error.count("\n") == 1
         counts.test(f"{path.name} says: {words}", told, error)
         counts.test(f"{path.name} isn't made", path != missing or not path.exists())
-    for words_of in ([], ["--port", "65536", text], ["--port", "x", text], ["--host", "a:1", text]):
+    mistakes: List[List[object]] = [
+        [],
+        ["--port", "65536", text],
+        ["--port", "x", text],
+        ["--host", "a:1", text],
+    ]
+    for words_of in mistakes:
         counts.same(f"usage {words_of}", 2, ended(*words_of)[0])
     folder = made.folder / "without"
     for module in "flask", "waitress":

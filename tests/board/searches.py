@@ -2,6 +2,7 @@
 from __future__ import annotations
 
 from typing import Dict, List
+from urllib.parse import urlencode
 
 from gtfs.checks import Counts
 
@@ -53,8 +54,8 @@ def check(counts: Counts, made: Made) -> None:
         got = decoded(answer.headers.get("Location", ""))
         counts.same(f"{address} leads on", (302, wanted), (answer.status_code, got))
     for text, columns in FOUND.items():
-        data = board.client.get("/.json", query_string={"q": text, "date": "2026-06-05"}).json
-        got = [
+        data = board.data("/.json?" + urlencode({"q": text, "date": "2026-06-05"}))
+        found = [
             [row[name] for row in data[kind]]
             for kind, name in (
                 ("stations", "station_crs"),
@@ -62,7 +63,7 @@ def check(counts: Counts, made: Made) -> None:
                 ("trains", "uid"),
             )
         ]
-        counts.same(f"found for {text}", columns, got)
+        counts.same(f"found for {text}", columns, found)
     page = squeezed(board.get("/?q=bri&date=2026-06-05"))
     counts.test("a list of stations", 'href="/station/BTN/2026-06-05">Brighton</a>' in page, page)
     page = squeezed(board.get("/?q=zzz&date=2026-06-05"))

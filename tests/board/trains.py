@@ -6,6 +6,7 @@ import shutil
 import sqlite3
 from collections import Counter
 from contextlib import closing
+from datetime import date, timedelta
 from itertools import groupby
 from typing import Any, Dict, List, Tuple
 
@@ -174,31 +175,32 @@ def check_links(counts: Counts, made: Made) -> None:
         )
         counts.same(f"the associations of {uid}", words, text)
         counts.test(f"the associations of {uid}, the link", f'href="/train/{address}"' in page)
-    # each association of each date, from both of its trains
-    for day in board.dates:
-        wanted = [row for row in board.cif("day", f"{day:%y%m%d}") if row["kind"] == "AA"]
-        for role, other in ("base_uid", "associated_uid"), ("associated_uid", "base_uid"):
-            for row in wanted:
-                later = (
-                    {"N": 1, "P": -1}.get(row["date_indicator"], 0)
-                    if role == "associated_uid"
-                    else 0
-                )
-                date = day.fromordinal(day.toordinal() + later).isoformat()
-                if date > str(board.dates[-1]):
-                    continue
-                links = board.data(f"/train/{row[role]}/{date}.json")["associations"]
-                found = [
-                    each["other_uid"]
-                    for each in links
-                    if each["category"] == row["association_category"]
-                ]
-                runs = board.data(f"/train/{row[role]}/{date}.json")["train"] is not None
-                counts.same(
-                    f"{row[role]} on {date}",
-                    [row[other]] if runs else [],
-                    [each for each in found if each == row[other]],
-                )
+    for each in board.dates:
+        check_links_on(counts, board, each)
+
+
+def check_links_on(counts: Counts, board: Board, day: date) -> None:
+    """Each association of a date, from both of its trains."""
+    for row in board.cif("day", f"{day:%y%m%d}"):
+        if row["kind"] != "AA":
+            continue
+        later = timedelta(days={"N": 1, "P": -1}.get(row["date_indicator"], 0))
+        for role, other, own in (
+            ("base_uid", "associated_uid", day),
+            ("associated_uid", "base_uid", day + later),
+        ):
+            if own not in board.dates:
+                continue
+            data = board.data(f"/train/{row[role]}/{own}.json")
+            found = [
+                each["other_uid"]
+                for each in data["associations"]
+                if each["category"] == row["association_category"]
+            ]
+            wanted = [row[other]] if data["train"] else []
+            counts.same(
+                f"{row[role]} on {own}", wanted, [uid for uid in found if uid == row[other]]
+            )
 
 
 def check_words(counts: Counts, made: Made) -> None:
