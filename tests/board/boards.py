@@ -47,9 +47,9 @@ def all_calls(board: Board) -> Counter[Tuple[str, str, str, str, str, int]]:
             ]
             for number, moments in enumerate(reached_and_left(calls), 1):
                 if moments:
-                    later, seconds = divmod(moments[1], DAY)
+                    midnights, seconds = divmod(moments[1], DAY)
                     time = f"{seconds // 3600:02}:{seconds // 60 % 60:02}:{seconds % 60:02}"
-                    by_clock = (day + timedelta(days=later)).isoformat()
+                    by_clock = (day + timedelta(days=midnights)).isoformat()
                     place = calls[number - 1].cells["location"]
                     found[place, by_clock, time, day.isoformat(), row["uid"], number] += 1
     return found

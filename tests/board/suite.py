@@ -19,7 +19,7 @@ def main() -> int:
     counts, cif, skipped = Counts(), Path(sys.argv[1]).resolve(), 0
     words.check(counts)
     if find_spec("flask") and find_spec("waitress"):
-        # they need Flask
+        # pylint: disable=import-outside-toplevel
         from board import boards, look, refusals, running, searches, trains
         from board.pages import Made
 

@@ -59,7 +59,7 @@ def check_train(counts: Counts, name: str, board: Board, uid: str) -> None:
 
 def check_calls(counts: Counts, name: str, board: Board, uid: str, day: str) -> None:
     """All calls of a train on a date."""
-    [wanted] = [row for row in board.cif("train", "--stops", "--from", day, "--to", day, uid)]
+    [wanted] = board.cif("train", "--stops", "--from", day, "--to", day, uid)
     data = board.data(address_of(uid, day) + ".json")
     got = [{each: call[each] for each in CALLS} for call in data["calls"]]
     want = [{each: call[each] for each in CALLS} for call in wanted["calls"]]
@@ -282,7 +282,9 @@ def check_operators(counts: Counts, name: str, board: Board) -> None:
         Counter(texts(row, columns) for row in rows),
     )
     table = board.page("/operators").tables.get("list", [[]])[1:]
-    got = {squeezed(cells[0].text).split(" ")[-1]: squeezed(cells[1].text) for cells in table[1:]}
+    got = {
+        squeezed(cells[0].text).rsplit(" ", 1)[-1]: squeezed(cells[1].text) for cells in table[1:]
+    }
     by_operator = sorted(rows, key=lambda row: row["operator"] or "")
     wanted = {}
     for code, group in groupby(by_operator, lambda row: row["operator"] or ""):

@@ -204,9 +204,10 @@ def application(path: Path, hosts: frozenset[str]) -> Flask:
     app = Flask(__name__)
     app.json.sort_keys = False  # type: ignore[attr-defined]
     app.json.ensure_ascii = False  # type: ignore[attr-defined]
-    app.jinja_env.filters.update(words.FILTERS)
+    for name, write in words.FILTERS.items():
+        app.add_template_filter(write, name)
     app.jinja_env.trim_blocks = app.jinja_env.lstrip_blocks = True
-    app.jinja_env.globals["version"] = __version__
+    app.context_processor(lambda: {"version": __version__})
     app.url_map.converters["part"] = PartConverter
     add_refusals(app, hosts)
     add_keeping(app, path)

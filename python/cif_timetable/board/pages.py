@@ -124,9 +124,9 @@ def moved(timetable: Timetable, day: str, days: int) -> str | None:
 def find_place(timetable: Timetable, code: str) -> Place | None:
     """The place with this code, in capitals."""
     if len(code) == 3:
-        station = timetable.row("station", place=code)
-        if station:
-            return Place(station["station_crs"], None, station["name"])
+        found = timetable.row("station", place=code)
+        if found:
+            return Place(found["station_crs"], None, found["name"])
     found = timetable.row("location", place=code)
     if found:
         return Place(None, found["tiploc"], found["name"], found["station_crs"])
@@ -301,7 +301,7 @@ def station_today(asked: Asked, place: str) -> Page:
 
 
 def train(asked: Asked, uid: str, day: str) -> Page:
-    timetable, arguments = asked.timetable, asked.arguments
+    timetable = asked.timetable
     uid = uid_in(uid)
     day = day_in(timetable, day)
     values, data = train_values(timetable, uid, day)
@@ -337,7 +337,7 @@ def train_first(asked: Asked, uid: str) -> Page:
 
 
 def journey(asked: Asked, from_crs: str, to_crs: str, day: str) -> Page:
-    timetable, arguments = asked.timetable, asked.arguments
+    timetable = asked.timetable
     start, end = station_in(timetable, from_crs), station_in(timetable, to_crs)
     day = day_in(timetable, day)
     if (start.code, end.code) != (from_crs, to_crs):
@@ -494,7 +494,7 @@ def meant_by(
 
 def operators(asked: Asked) -> Page:
     """Trains a day, of each operator."""
-    timetable, arguments = asked.timetable, asked.arguments
+    timetable = asked.timetable
     names = {row["operator"]: row["operator_name"] for row in timetable.rows("operator_names")}
     known = read_operators(None)
     rows = timetable.rows("trains_per_day")
@@ -523,7 +523,7 @@ def operator_of(row: Row) -> str:
 
 def extract(asked: Asked) -> Page:
     """What is loaded."""
-    timetable, arguments = asked.timetable, asked.arguments
+    timetable = asked.timetable
     [row] = timetable.rows("extract")
     return Page("extract", {"extract": row, "window": timetable.window}, row)
 

@@ -56,8 +56,8 @@ ASSOCIATIONS = {
 }
 
 
-def status(number: int) -> str:
-    return STATUSES.get(number, "This can't be answered")
+def status(code: int) -> str:
+    return STATUSES.get(code, "This can't be answered")
 
 
 def either(names: Sequence[str]) -> str:
