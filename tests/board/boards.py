@@ -2,7 +2,7 @@
 from __future__ import annotations
 
 import json
-from collections import Counter
+from collections import Counter, defaultdict
 from datetime import date, timedelta
 from typing import Any, Dict, List, Optional, Tuple
 
@@ -13,7 +13,8 @@ from .pages import Board, Element, Made, Reader, squeezed
 
 DAY = 86400
 # Of a long window so many dates are looked at.
-MOST_DATES = 7
+MOST_DATES = 5
+LONG = 60
 COLUMNS = (
     "station_crs crs date time train_date uid identity operator category status as_required platform"
     " origin destination pick_up set_down location number".split()
@@ -36,10 +37,17 @@ def stations(board: Board) -> List[str]:
     return sorted({row["crs_code"] for row in rows if row["crs_code"]})
 
 
+def days_before(board: Board, dates: List[date]) -> List[date]:
+    """The dates of trains that call on these dates: in a long window none calls after more than two midnights."""
+    if len(board.dates) < LONG:
+        return board.dates
+    return sorted({day for each in dates for day in board.dates if 0 <= (each - day).days <= 2})
+
+
 def all_calls(board: Board) -> Counter[Tuple[str, str, str, str, str, int]]:
     """All timed calls by the clock: the TIPLOC, the date, the time, the train's date, its UID, the number of the call."""
     found: Counter[Tuple[str, str, str, str, str, int]] = Counter()
-    for day in board.dates:
+    for day in days_before(board, some_dates(board)):
         for row in board.cif("day", "--stops", f"{day:%y%m%d}"):
             calls = [
                 ReferenceCall("", {name: cell or "" for name, cell in call.items()})
@@ -119,6 +127,9 @@ def later(page: Reader, day: str) -> Optional[str]:
 def check_calls(counts: Counts, name: str, board: Board) -> None:
     """All calls at each TIPLOC on some dates."""
     wanted = all_calls(board)
+    by_place = defaultdict(list)
+    for key in wanted.elements():
+        by_place[key[:2]].append(key)
     places = sorted({key[0] for key in wanted if key[0].strip()})
     listed = {row["tiploc"] for row in board.expected.tables["tiplocs"]}
     for day in some_dates(board):
@@ -126,9 +137,7 @@ def check_calls(counts: Counts, name: str, board: Board) -> None:
             if place not in listed:
                 continue
             rows = board.data(f"/station/{place}/{day}.json?show=all")["calls"]
-            want = Counter(
-                {key: count for key, count in wanted.items() if key[:2] == (place, str(day))}
-            )
+            want = Counter(by_place[place, str(day)])
             names = "location date time train_date uid number".split()
             got = Counter(tuple(row[each] for each in names) for row in rows)
             counts.same(f"{name}, all calls at {place} on {day}", want, got)

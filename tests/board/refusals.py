@@ -37,6 +37,8 @@ WRONG: Dict[str, Tuple[int, str]] = {
     "/?q=HHE&date=2026-06-99": (400, "2026-06-99 isn’t a date."),
     "/station": (404, "There is no such page."),
     "/station/HHE/2026-06-05/more": (404, "There is no such page."),
+    "/?q=" + "x" * 101: (400, "A search has at most 100 letters."),
+    "/journey?from=HHE&to=" + "x" * 101: (400, "A search has at most 100 letters."),
     "/static/../queries.py": (404, "There is no such page."),
 }
 PAGES = (
@@ -86,6 +88,10 @@ def check_addresses(counts: Counts, made: Made) -> None:
     answer = board.client.get("/station/HHE/2026-06-31.json")
     told = {"error": "2026-06-31 isn't a date. A date is written 2026-06-05."}
     counts.same("a bad address as JSON", (400, told), (answer.status_code, answer.json))
+    for address in "/station/hhe/2026-06-05", "/station/hhe":
+        answer = board.client.get(f"{address}?_external=1&_scheme=javascript&from=09:00&x=1")
+        where = answer.headers["Location"].replace("%3A", ":").replace("2026-06-13", "2026-06-05")
+        counts.same(f"{address} leads on", "/station/HHE/2026-06-05?from=09:00", where)
     for method in "post", "put", "delete":
         answer = getattr(board.client, method)("/station/HHE/2026-06-05")
         counts.same(f"{method} is refused", 405, answer.status_code)

@@ -17,7 +17,7 @@ from .. import __version__
 from ..errors import CifError
 from . import words
 from .pages import Asked, Elsewhere, Page, Wrong, home, pages
-from .queries import Identity, identity_of, open_timetable
+from .queries import Identity, check_layout, identity_of, open_timetable
 
 # Answers take so many bytes of memory at most.
 MOST_KEPT = 64 << 20
@@ -199,8 +199,7 @@ def is_home() -> bool:
 
 def application(path: Path, hosts: frozenset[str]) -> Flask:
     """The application of a database, which is looked at first."""
-    with open_timetable(path) as timetable:
-        assert timetable.window
+    check_layout(path)
     app = Flask(__name__)
     app.json.sort_keys = False  # type: ignore[attr-defined]
     app.json.ensure_ascii = False  # type: ignore[attr-defined]

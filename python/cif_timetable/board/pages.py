@@ -23,6 +23,8 @@ MOST_FOUND = 30
 MOST_ROWS = 500
 # From so many on, a line divides hours.
 MANY_ROWS = 20
+# Names have at most 26 letters in CIF, and more in the user's lists.
+LONGEST = 100
 SHOWN = ("departures", "arrivals", "all")
 CODE = re.compile("[!-~]{1,7}")
 TIME = re.compile("([01][0-9]|2[0-3]):([0-5][0-9])")
@@ -119,6 +121,14 @@ def moved(timetable: Timetable, day: str, days: int) -> str | None:
     found = (date.fromisoformat(day) + timedelta(days=days)).isoformat()
     first, last = timetable.window
     return found if first <= found <= last else None
+
+
+def words_in(arguments: Arguments, name: str) -> str:
+    """What is searched."""
+    text = arguments.get(name, "").strip()
+    if len(text) > LONGEST:
+        raise Wrong(400, f"A search has at most {LONGEST} letters.")
+    return text
 
 
 def find_place(timetable: Timetable, code: str) -> Place | None:
@@ -222,7 +232,7 @@ def station(asked: Asked, place: str, day: str) -> Page:
     day = day_in(timetable, day)
     show, hours = shown_in(arguments), hours_in(arguments)
     if found.code != place:
-        raise Elsewhere("station", **{**arguments, "place": found.code, "day": day})
+        raise Elsewhere("station", place=found.code, day=day, **of_board(arguments))
     kind = "calls" if show == "all" else show
     rows, until = calls_of(
         timetable, kind, found, day, hours, None if asked.by_program else MOST_ROWS
@@ -293,8 +303,12 @@ def station_today(asked: Asked, place: str) -> Page:
     timetable, arguments = asked.timetable, asked.arguments
     found = place_in(timetable, place)
     day = given_day(timetable, arguments)
-    others = {name: arguments[name] for name in ("from", "show") if arguments.get(name)}
-    raise Elsewhere("station", place=found.code, day=day, **others)
+    raise Elsewhere("station", place=found.code, day=day, **of_board(arguments))
+
+
+def of_board(arguments: Arguments) -> dict[str, str]:
+    """What is asked of a board beside its place and date. Other words stay behind."""
+    return {name: arguments[name] for name in ("from", "show") if arguments.get(name)}
 
 
 # ---- a train
@@ -379,7 +393,7 @@ def portion_of(timetable: Timetable, ride: Row) -> Row:
 def journey_form(asked: Asked) -> Page:
     """Where the form for a journey leads. Its stations are codes or names."""
     timetable, arguments = asked.timetable, asked.arguments
-    texts = arguments.get("from", "").strip(), arguments.get("to", "").strip()
+    texts = words_in(arguments, "from"), words_in(arguments, "to")
     day = given_day(timetable, arguments)
     found = [stations_named(timetable, text) for text in texts]
     if all(len(each) == 1 for each in found):
@@ -433,7 +447,7 @@ def find_stations(timetable: Timetable, text: str) -> list[Row]:
 def home(asked: Asked) -> Page:
     """The search, and what it finds."""
     timetable, arguments = asked.timetable, asked.arguments
-    text = arguments.get("q", "").strip()
+    text = words_in(arguments, "q")
     day = given_day(timetable, arguments)
     stations: list[Row] = []
     locations: list[Row] = []
