@@ -275,7 +275,9 @@ def check_many(counts: Counts, made: Made) -> None:
         "many, in words",
         "The first 500 departures, before 09:10" in squeezed(board.get(str(address))),
     )
-    while address:
+    for _ in range(10):
+        if not address:
+            break
         page = board.page(address)
         found += [cells[-1].links[0] for cells in page.tables.get("board departures", [[]])[1:]]
         address = later(page, "2026-01-06") if len(found) < 700 else None
