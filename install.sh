@@ -56,7 +56,7 @@ each() {
     for file in "$top"/python/bin/cif-*; do
         "$1" "$file" 755 "$base/bin/${file##*/}" || return
     done
-    for file in "$top"/python/cif_timetable/*.* "$top"/python/cif_timetable/*/*.*; do
+    for file in "$top"/python/cif_timetable/*.* "$top"/python/cif_timetable/*/*.* "$top"/python/cif_timetable/*/*/*.*; do
         "$1" "$file" 644 "$base/share/cif/${file#"$top"/python/}" || return
     done
 }

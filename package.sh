@@ -114,6 +114,7 @@ Maintainer: The Colteapot authors
 Installed-Size: $size
 Depends: $(paste -s -d , "$work/dependencies" | sed 's/,/, /g')
 Recommends: python3 (>= 3.11)
+Suggests: python3-flask, python3-waitress
 Section: utils
 Priority: optional
 Description: work out what runs on each date of a CIF timetable extract
@@ -121,7 +122,8 @@ Description: work out what runs on each date of a CIF timetable extract
  each date of the extract's window, and writes that down as an extract that
  needs no further rules. It also lists how two extracts differ, what runs on
  a day, and why a train runs or doesn't. cif-gtfs makes a GTFS feed of an
- extract, cif-sql a database, and cif-report a page of what changed between two.
+ extract, cif-sql a database, cif-board pages to look at it, and cif-report a
+ page of what changed between two.
  cif-feed does all of this every night, from a published feed.
 END
 deb=cif_${version}_amd64.deb
@@ -138,6 +140,10 @@ put 644 "$work/$name/python/cif_timetable" "$top"/python/cif_timetable/*.*
 for package in "$top"/python/cif_timetable/*/; do
     package=${package%/}
     put 644 "$work/$name/python/cif_timetable/${package##*/}" "$package"/*.*
+done
+for folder_of in "$top"/python/cif_timetable/board/*/; do
+    folder_of=${folder_of%/}
+    put 644 "$work/$name/python/cif_timetable/board/${folder_of##*/}" "$folder_of"/*.*
 done
 tar --sort=name --owner=0 --group=0 --numeric-owner --mtime="@$time" -C "$work" -cf "$work/$name.tar" "$name"
 gzip -9n "$work/$name.tar"

@@ -16,8 +16,8 @@ from werkzeug.wrappers import Response as AnyResponse
 from .. import __version__
 from ..errors import CifError
 from . import words
-from .pages import Elsewhere, Page, Wrong, home, pages
-from .queries import Identity, Timetable, identity_of, open_timetable
+from .pages import Asked, Elsewhere, Page, Wrong, home, pages
+from .queries import Identity, check_layout, identity_of, open_timetable
 
 # Answers take so many bytes of memory at most.
 MOST_KEPT = 64 << 20
@@ -102,7 +102,7 @@ def wrong_response(status: int, text: str) -> AnyResponse:
 def elsewhere(place: Elsewhere) -> AnyResponse:
     """The way to another address of this application, in the same format."""
     endpoint = place.endpoint + ("_json" if wants_json() else "")
-    return redirect(url_for(endpoint, **place.values))
+    return redirect(url_for(endpoint, **place.values))  # type: ignore[arg-type]
 
 
 def add_page(app: Flask, path: Path, rule: str, name: str, view: Callable[..., Page]) -> None:
@@ -110,7 +110,8 @@ def add_page(app: Flask, path: Path, rule: str, name: str, view: Callable[..., P
 
     def answer(**values: str) -> AnyResponse:
         with open_timetable(path) as timetable:
-            return page_response(view(timetable, request.args, **values))
+            asked = Asked(timetable, request.args, wants_json())
+            return page_response(view(asked, **values))
 
     app.add_url_rule(rule, name, answer)
     app.add_url_rule(f"{rule}.json", f"{name}_json", answer)
@@ -181,7 +182,7 @@ def add_keeping(app: Flask, path: Path) -> None:
         # where a request without a date leads depends on today's
         fresh = answer.status_code == 200 and "cif.kept" not in request.environ
         if before and fresh and not is_home() and before == identity():
-            answers.put(before, request.full_path, Kept(answer.mimetype, answer.get_data()))
+            answers.put(before, request.full_path, Kept(answer.mimetype or "", answer.get_data()))
         if answer.status_code == 200:
             answer.add_etag()
             answer.make_conditional(request)
@@ -198,14 +199,14 @@ def is_home() -> bool:
 
 def application(path: Path, hosts: frozenset[str]) -> Flask:
     """The application of a database, which is looked at first."""
-    with open_timetable(path) as timetable:
-        timetable.window()
+    check_layout(path)
     app = Flask(__name__)
     app.json.sort_keys = False  # type: ignore[attr-defined]
     app.json.ensure_ascii = False  # type: ignore[attr-defined]
-    app.jinja_env.filters.update(words.FILTERS)
+    for name, write in words.FILTERS.items():
+        app.add_template_filter(write, name)
     app.jinja_env.trim_blocks = app.jinja_env.lstrip_blocks = True
-    app.jinja_env.globals["version"] = __version__
+    app.context_processor(lambda: {"version": __version__})
     app.url_map.converters["part"] = PartConverter
     add_refusals(app, hosts)
     add_keeping(app, path)

@@ -19,6 +19,12 @@ from .trains import train_values
 # A board from a time on has so many hours, and a list of what is found so many rows.
 HOURS = 2
 MOST_FOUND = 30
+# A page of a board has about so many rows at most: the busiest stations have more departures on a day.
+MOST_ROWS = 500
+# From so many on, a line divides hours.
+MANY_ROWS = 20
+# Names have at most 26 letters in CIF, and more in the user's lists.
+LONGEST = 100
 SHOWN = ("departures", "arrivals", "all")
 CODE = re.compile("[!-~]{1,7}")
 TIME = re.compile("([01][0-9]|2[0-3]):([0-5][0-9])")
@@ -26,6 +32,15 @@ DATE = re.compile("[0-9]{4}-[0-9]{2}-[0-9]{2}")
 UID = re.compile("[ -~]{6}")
 
 Arguments = Mapping[str, str]
+
+
+@dataclass
+class Asked:
+    """A request: what is asked of, the words after the address, and whether a program asks."""
+
+    timetable: Timetable
+    arguments: Arguments
+    by_program: bool
 
 
 @dataclass
@@ -82,7 +97,7 @@ def day_in(timetable: Timetable, text: str) -> str:
         date.fromisoformat(text)
     except ValueError:
         raise Wrong(400, f"{text} isn't a date. A date is written 2026-06-05.") from None
-    first, last = timetable.window()
+    first, last = timetable.window
     if not first <= text <= last:
         window = f"from {words.day(first)} to {words.day(last)}"
         raise Wrong(404, f"{words.day(text)} isn't in this timetable, which is {window}.")
@@ -91,7 +106,7 @@ def day_in(timetable: Timetable, text: str) -> str:
 
 def usual_day(timetable: Timetable) -> str:
     """The date that is shown where none is asked for: today, or the date of the window next to it."""
-    first, last = timetable.window()
+    first, last = timetable.window
     return min(max(date.today().isoformat(), first), last)
 
 
@@ -104,16 +119,24 @@ def given_day(timetable: Timetable, arguments: Arguments) -> str:
 def moved(timetable: Timetable, day: str, days: int) -> str | None:
     """The date some days later, if it is in the window."""
     found = (date.fromisoformat(day) + timedelta(days=days)).isoformat()
-    first, last = timetable.window()
+    first, last = timetable.window
     return found if first <= found <= last else None
+
+
+def words_in(arguments: Arguments, name: str) -> str:
+    """What is searched."""
+    text = arguments.get(name, "").strip()
+    if len(text) > LONGEST:
+        raise Wrong(400, f"A search has at most {LONGEST} letters.")
+    return text
 
 
 def find_place(timetable: Timetable, code: str) -> Place | None:
     """The place with this code, in capitals."""
     if len(code) == 3:
-        station = timetable.row("station", place=code)
-        if station:
-            return Place(station["station_crs"], None, station["name"])
+        found = timetable.row("station", place=code)
+        if found:
+            return Place(found["station_crs"], None, found["name"])
     found = timetable.row("location", place=code)
     if found:
         return Place(None, found["tiploc"], found["name"], found["station_crs"])
@@ -202,59 +225,104 @@ def neighbours(timetable: Timetable, day: str, hours: Hours) -> tuple[Row | None
     return at(hours.start - HOURS * 60), at(hours.last)
 
 
-def station(timetable: Timetable, arguments: Arguments, place: str, day: str) -> Page:
+def station(asked: Asked, place: str, day: str) -> Page:
     """A board."""
+    timetable, arguments = asked.timetable, asked.arguments
     found = place_in(timetable, place)
     day = day_in(timetable, day)
     show, hours = shown_in(arguments), hours_in(arguments)
     if found.code != place:
-        raise Elsewhere("station", **{**arguments, "place": found.code, "day": day})
-    name = "calls" if show == "all" else show
-    asked = {"station_crs": found.station_crs, "location": found.location, "date": day}
-    rows = timetable.rows(name, **asked, **hours.parameters())
+        raise Elsewhere("station", place=found.code, day=day, **of_board(arguments))
+    kind = "calls" if show == "all" else show
+    rows, until = calls_of(
+        timetable, kind, found, day, hours, None if asked.by_program else MOST_ROWS
+    )
     before, after = neighbours(timetable, day, hours)
+    if until:
+        after = {"date": day, "from": until}
     values = {
         "place": found,
         "date": day,
         "show": show,
-        "kind": name,
+        "kind": kind,
         "start": arguments.get("from") or None,
         "hours": hours,
         "every": [clock_of(hour * 60) for hour in range(0, 24, HOURS)],
-        "until": clock_of(hours.last),
+        "until": until or clock_of(hours.last),
+        "cut": until,
         "before": before,
         "after": after,
         "rows": rows,
-        "by_hour": [(hour, list(group)) for hour, group in groupby(rows, hour_of)],
-        "window": timetable.window(),
+        "parts": parts_of(rows),
+        "window": timetable.window,
     }
-    data = {**asked, "station": found.name, "from": values["start"], name: rows}
+    data = {
+        "station_crs": found.station_crs,
+        "location": found.location,
+        "station": found.name,
+        "date": day,
+        "from": values["start"],
+        kind: rows,
+    }
     return Page("station", values, data)
 
 
-def hour_of(row: Row) -> str:
-    return str(row["time"])[:2]
+def calls_of(
+    timetable: Timetable, kind: str, place: Place, day: str, hours: Hours, most: int | None
+) -> tuple[list[Row], str | None]:
+    """The rows of a board, and the time at which it ends before its hours do: then it has about as
+    many rows as it may have, and none of the minute after them."""
+    values: Row = {"date": day, **hours.parameters()}
+    limit = -1 if most is None else most + 1
+    if kind == "calls":
+        codes = {"station_crs": place.station_crs, "location": place.location}
+        rows = timetable.rows("calls", **codes, **values)
+    else:
+        column = "station_crs" if place.station_crs else "location"
+        rows = timetable.board(kind, column, place.code, most=limit, **values)
+    rows.sort(key=lambda row: (row["time"], row["uid"], row["train_date"], row["number"]))
+    if most is None or len(rows) <= most:
+        return rows, None
+    end = rows[most]["time"][:5]
+    kept = [row for row in rows if row["time"][:5] < end]
+    if kept:
+        return kept, end
+    # so many leave in one minute that they are shown all the same
+    return calls_of(timetable, kind, place, day, hours, None)
 
 
-def station_today(timetable: Timetable, arguments: Arguments, place: str) -> Page:
+def parts_of(rows: list[Row]) -> list[list[Row]]:
+    """The rows of a board, hour by hour where they are many."""
+    if len(rows) < MANY_ROWS:
+        return [rows]
+    return [list(group) for _, group in groupby(rows, lambda row: str(row["time"])[:2])]
+
+
+def station_today(asked: Asked, place: str) -> Page:
     """Where the form of a board leads, and a station without a date."""
+    timetable, arguments = asked.timetable, asked.arguments
     found = place_in(timetable, place)
     day = given_day(timetable, arguments)
-    others = {name: arguments[name] for name in ("from", "show") if arguments.get(name)}
-    raise Elsewhere("station", place=found.code, day=day, **others)
+    raise Elsewhere("station", place=found.code, day=day, **of_board(arguments))
+
+
+def of_board(arguments: Arguments) -> dict[str, str]:
+    """What is asked of a board beside its place and date. Other words stay behind."""
+    return {name: arguments[name] for name in ("from", "show") if arguments.get(name)}
 
 
 # ---- a train
 
 
-def train(timetable: Timetable, arguments: Arguments, uid: str, day: str) -> Page:
+def train(asked: Asked, uid: str, day: str) -> Page:
+    timetable = asked.timetable
     uid = uid_in(uid)
     day = day_in(timetable, day)
     values, data = train_values(timetable, uid, day)
     if not values:
         raise Wrong(404, f"This timetable has no train with the UID {uid}.")
     around = {"before": moved(timetable, day, -1), "after": moved(timetable, day, 1)}
-    return Page("train", {**values, **around, "window": timetable.window()}, data)
+    return Page("train", {**values, **around, "window": timetable.window}, data)
 
 
 def uid_in(text: str) -> str:
@@ -266,8 +334,9 @@ def uid_in(text: str) -> str:
     return uid
 
 
-def train_first(timetable: Timetable, arguments: Arguments, uid: str) -> Page:
+def train_first(asked: Asked, uid: str) -> Page:
     """Where a train without a date leads: the date asked for, or the next one on which it runs."""
+    timetable, arguments = asked.timetable, asked.arguments
     uid = uid_in(uid)
     if arguments.get("date"):
         raise Elsewhere("train", uid=uid, day=day_in(timetable, arguments["date"]))
@@ -281,9 +350,8 @@ def train_first(timetable: Timetable, arguments: Arguments, uid: str) -> Page:
 # ---- from one station to another
 
 
-def journey(
-    timetable: Timetable, arguments: Arguments, from_crs: str, to_crs: str, day: str
-) -> Page:
+def journey(asked: Asked, from_crs: str, to_crs: str, day: str) -> Page:
+    timetable = asked.timetable
     start, end = station_in(timetable, from_crs), station_in(timetable, to_crs)
     day = day_in(timetable, day)
     if (start.code, end.code) != (from_crs, to_crs):
@@ -299,7 +367,7 @@ def journey(
         "rides": rides,
         "before": moved(timetable, day, -1),
         "after": moved(timetable, day, 1),
-        "window": timetable.window(),
+        "window": timetable.window,
     }
     data = {"from_crs": start.code, "to_crs": end.code, "date": day, "rides": rows}
     return Page("journey", values, data)
@@ -322,9 +390,10 @@ def portion_of(timetable: Timetable, ride: Row) -> Row:
     return found
 
 
-def journey_form(timetable: Timetable, arguments: Arguments) -> Page:
+def journey_form(asked: Asked) -> Page:
     """Where the form for a journey leads. Its stations are codes or names."""
-    texts = arguments.get("from", "").strip(), arguments.get("to", "").strip()
+    timetable, arguments = asked.timetable, asked.arguments
+    texts = words_in(arguments, "from"), words_in(arguments, "to")
     day = given_day(timetable, arguments)
     found = [stations_named(timetable, text) for text in texts]
     if all(len(each) == 1 for each in found):
@@ -336,7 +405,7 @@ def journey_form(timetable: Timetable, arguments: Arguments) -> Page:
         {"label": label, "name": name, "text": text, "stations": each}
         for label, name, text, each in zip(("From", "To"), ("from", "to"), texts, found)
     ]
-    values = {"choices": choices, "date": day, "window": timetable.window()}
+    values = {"choices": choices, "date": day, "window": timetable.window}
     data = {"date": day, "from": found[0], "to": found[1]}
     return Page("choose", values, data)
 
@@ -375,9 +444,10 @@ def find_stations(timetable: Timetable, text: str) -> list[Row]:
     )
 
 
-def home(timetable: Timetable, arguments: Arguments) -> Page:
+def home(asked: Asked) -> Page:
     """The search, and what it finds."""
-    text = arguments.get("q", "").strip()
+    timetable, arguments = asked.timetable, asked.arguments
+    text = words_in(arguments, "q")
     day = given_day(timetable, arguments)
     stations: list[Row] = []
     locations: list[Row] = []
@@ -385,8 +455,8 @@ def home(timetable: Timetable, arguments: Arguments) -> Page:
     if text:
         stations = find_stations(timetable, text)
         code = text.upper()
-        asked = {"code": code, "text": text.lower(), "most": MOST_FOUND}
-        locations = timetable.rows("search_locations", escaped=escaped(text.lower()), **asked)
+        parts: Row = {"code": code, "text": text.lower(), "escaped": escaped(text.lower())}
+        locations = timetable.rows("search_locations", most=MOST_FOUND, **parts)
         trains = timetable.rows(
             "search_trains", uid=code.rjust(6), code=code, date=day, most=MOST_FOUND
         )
@@ -398,7 +468,7 @@ def home(timetable: Timetable, arguments: Arguments) -> Page:
         "trains": trains,
         "found": len(stations) + len(locations) + len(trains),
         "most": MOST_FOUND,
-        "window": timetable.window(),
+        "window": timetable.window,
     }
     data = {
         "q": text,
@@ -436,15 +506,16 @@ def meant_by(
 # ---- operators, the extract
 
 
-def operators(timetable: Timetable, arguments: Arguments) -> Page:
+def operators(asked: Asked) -> Page:
     """Trains a day, of each operator."""
+    timetable = asked.timetable
     names = {row["operator"]: row["operator_name"] for row in timetable.rows("operator_names")}
     known = read_operators(None)
     rows = timetable.rows("trains_per_day")
     for row in rows:
         code = row["operator"]
         row["operator_name"] = names.get(code) or operator_name(code or "", known)
-    first, last = (date.fromisoformat(each) for each in timetable.window())
+    first, last = (date.fromisoformat(each) for each in timetable.window)
     days = [
         (first + timedelta(days=number)).isoformat() for number in range((last - first).days + 1)
     ]
@@ -456,7 +527,7 @@ def operators(timetable: Timetable, arguments: Arguments) -> Page:
         each = list(group)
         charts.append(chart_of(code, each[0]["operator_name"], days, each))
     charts[1:] = sorted(charts[1:], key=lambda chart: (-chart.total, chart.code))
-    values = {"charts": charts, "days": days, "window": timetable.window()}
+    values = {"charts": charts, "days": days, "window": timetable.window}
     return Page("operators", values, {"trains_per_day": rows})
 
 
@@ -464,10 +535,11 @@ def operator_of(row: Row) -> str:
     return row["operator"] or ""
 
 
-def extract(timetable: Timetable, arguments: Arguments) -> Page:
+def extract(asked: Asked) -> Page:
     """What is loaded."""
+    timetable = asked.timetable
     [row] = timetable.rows("extract")
-    return Page("extract", {"extract": row, "window": timetable.window()}, row)
+    return Page("extract", {"extract": row, "window": timetable.window}, row)
 
 
 pages: list[tuple[str, str, Callable[..., Page]]] = [

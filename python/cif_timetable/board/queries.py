@@ -4,7 +4,7 @@ from __future__ import annotations
 import sqlite3
 from collections.abc import Iterator
 from contextlib import closing, contextmanager
-from functools import lru_cache
+from functools import cached_property, lru_cache
 from pathlib import Path
 from typing import Any
 from urllib.parse import quote
@@ -14,7 +14,7 @@ from ..errors import Failed, Refused
 HERE = Path(__file__).resolve().parent / "sql"
 # SQLite's number for the program that a file is of: as cif-sql writes it.
 APPLICATION = 0x63696631
-# What is read of a database as soon as it is opened: one that lacks any of it is of another release.
+# What is read of a database at first: one that lacks any of it is of another release.
 LAYOUT = (
     "SELECT station_crs, train_date, as_required FROM departures LIMIT 0",
     "SELECT from_crs, portion FROM rides LIMIT 0",
@@ -54,6 +54,15 @@ class Timetable:
         """The first row of an answer, or None where it has none."""
         return next(iter(self.rows(name, **values)), None)
 
+    def board(self, view: str, place: str, code: str, **values: object) -> list[Row]:
+        """Rows of one of the views `departures` and `arrivals`, in which `place`, `station_crs` or
+        `location`, is this code."""
+        query = statement("board").replace("@BOARD@", view).replace("@PLACE@", place)
+        parameters: Row = {"place": code, **values}
+        found = self.connection.execute(query, parameters)
+        return [dict(row) for row in found]
+
+    @cached_property
     def window(self) -> tuple[str, str]:
         """The first and the last date."""
         [found] = self.rows("window")
@@ -68,7 +77,6 @@ def open_timetable(path: Path) -> Iterator[Timetable]:
     address = f"file:{quote(str(path.resolve()))}?mode=ro"
     try:
         with closing(sqlite3.connect(address, uri=True, isolation_level=None)) as connection:
-            check_layout(connection, path)
             yield Timetable(connection)
     except sqlite3.OperationalError as problem:
         raise Failed(f"{path}: {problem}") from None
@@ -76,7 +84,13 @@ def open_timetable(path: Path) -> Iterator[Timetable]:
         raise Refused(f"{path} isn't a database, or is damaged: {problem}") from None
 
 
-def check_layout(connection: sqlite3.Connection, path: Path) -> None:
+def check_layout(path: Path) -> None:
+    """Refuses what isn't a database of this release of cif-sql."""
+    with open_timetable(path) as timetable:
+        check_tables(timetable.connection, path)
+
+
+def check_tables(connection: sqlite3.Connection, path: Path) -> None:
     [[application]] = connection.execute("PRAGMA application_id").fetchall()
     if application != APPLICATION:
         raise Refused(f"{path} isn't a database of cif-sql")

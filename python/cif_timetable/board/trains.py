@@ -60,7 +60,7 @@ class Version:
 
 @dataclass
 class Day:
-    """A date of the calendar. `kind` is `runs`, `cancelled`, `none`, or `outside` of the window."""
+    """A date of the calendar. `kind` is `runs`, `cancelled` or `none`."""
 
     date: str
     number: int
@@ -144,18 +144,24 @@ def compare(timetable: Timetable, shown: Version, versions: Iterable[Version]) -
 # ---- the calendar
 
 
-def calendar(
-    window: tuple[str, str], versions: Iterable[Version], cancelled: set[str]
-) -> list[tuple[str, list[list[Day | None]]]]:
-    """The months of the window: each by a date of it, and its weeks from Monday to Sunday."""
+def days_in(window: tuple[str, str], versions: Iterable[Version], cancelled: set[str]) -> list[Day]:
+    """All dates of the window."""
     by_date = {day: version for version in versions for day in version.dates}
     first, last = (date.fromisoformat(each) for each in window)
-    days = [
+    return [
         day_of((first + timedelta(days=number)), by_date, cancelled)
         for number in range((last - first).days + 1)
     ]
+
+
+def months_of(days: Sequence[Day], shown: str) -> list[tuple[str, list[list[Day | None]]]]:
+    """The months from the first with a date to the last, and that of the date shown: each by a date
+    of it, and its weeks from Monday to Sunday."""
+    wanted = [day.date[:7] for day in days if day.kind != "none" or day.date == shown]
     months = []
-    for _, group in groupby(days, lambda day: day.date[:7]):
+    for month, group in groupby(days, lambda day: day.date[:7]):
+        if not wanted[0] <= month <= wanted[-1]:
+            continue
         found: list[Day | None] = list(group)
         start = date.fromisoformat(found[0].date).weekday() if found[0] else 0
         cells = [None] * start + found
@@ -174,6 +180,13 @@ def day_of(day: date, by_date: dict[str, Version], cancelled: set[str]) -> Day:
 # ---- the page
 
 
+def later(day: str, midnights: int | None) -> str | None:
+    """The date by the clock after so many midnights."""
+    if midnights is None:
+        return None
+    return (date.fromisoformat(day) + timedelta(days=midnights)).isoformat()
+
+
 def train_values(timetable: Timetable, uid: str, day: str) -> tuple[dict[str, Any], dict[str, Any]]:
     """The values of the page of a train on a date, and the same as data; nothing if no schedule has
     the UID. The train needn't run on the date."""
@@ -188,11 +201,13 @@ def train_values(timetable: Timetable, uid: str, day: str) -> tuple[dict[str, An
         compare(timetable, nearest, versions)
     row = next((each for each in rows if each["date"] == day), None)
     calls = timetable.rows("train_calls", journey=row["journey"]) if row else []
+    for call in calls:
+        call["date"] = later(day, call["midnights"])
     changes = timetable.rows("train_changes", journey=row["journey"]) if row else []
     links = timetable.rows("associations", uid=uid, date=day) if row else []
     cancelled = {each for each, of in published.items() if of["stp_indicator"] == "C"}
-    window = timetable.window()
-    months = calendar(window, versions, cancelled)
+    window = timetable.window
+    days = days_in(window, versions, cancelled)
     letters = {each: version.letter for version in versions for each in version.dates}
     values = {
         "uid": uid,
@@ -205,7 +220,7 @@ def train_values(timetable: Timetable, uid: str, day: str) -> tuple[dict[str, An
         "links": links,
         "versions": versions,
         "shown": shown,
-        "months": months,
+        "months": months_of(days, day),
         "dates": sorted(letters),
         "cancelled": sorted(cancelled - letters.keys()),
         "facts": facts_of(row) if row else [],
@@ -213,7 +228,7 @@ def train_values(timetable: Timetable, uid: str, day: str) -> tuple[dict[str, An
             call[name] for call in calls for name in ("engineering", "pathing", "performance")
         ),
     }
-    data = {
+    data: dict[str, Any] = {
         "uid": uid,
         "date": day,
         "train": {name: row[name] for name in row if name != "date"} if row else None,
@@ -227,10 +242,7 @@ def train_values(timetable: Timetable, uid: str, day: str) -> tuple[dict[str, An
                 "version": letters.get(each.date),
                 "stp_indicator": published.get(each.date, {}).get("stp_indicator"),
             }
-            for _, weeks in months
-            for week in weeks
-            for each in week
-            if each
+            for each in days
         ],
         "versions": [
             {"version": each.letter, **{name: each.schedule[name] for name in each.schedule}}

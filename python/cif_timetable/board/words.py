@@ -47,7 +47,7 @@ ACTIVITIES = {
 SORTS = {"B": "bus", "5": "bus", "S": "ship", "4": "ship"}
 # What an association of a category means for its base train, and for the other one.
 ASSOCIATIONS = {
-    ("VV", 1): "Divides",
+    ("VV", 1): "Divides: a portion leaves as",
     ("VV", 0): "Divides from",
     ("JJ", 1): "Is joined by",
     ("JJ", 0): "Joins",
@@ -56,8 +56,8 @@ ASSOCIATIONS = {
 }
 
 
-def status(number: int) -> str:
-    return STATUSES.get(number, "This can't be answered")
+def status(code: int) -> str:
+    return STATUSES.get(code, "This can't be answered")
 
 
 def either(names: Sequence[str]) -> str:
@@ -130,6 +130,12 @@ def span(dates: Sequence[str]) -> str:
     return f"on {len(dates)} dates {between}: {weekdays(dates)}"
 
 
+def association(link: Row) -> str:
+    """What a train does with another one."""
+    category = link["category"] or "without a category"
+    return ASSOCIATIONS.get((category, link["is_base"]), f"Is associated ({category}) with")
+
+
 def number(value: int) -> str:
     return f"{value:,}"
 
@@ -160,6 +166,7 @@ def marks(row: Row, show: str) -> list[str]:
 
 FILTERS: dict[str, Callable[..., str | Collection[str]]] = {
     "activities": activities,
+    "association": association,
     "clock": clock,
     "day": day,
     "marks": marks,
