@@ -6,19 +6,18 @@ import os
 import re
 import sys
 from collections.abc import Sequence
-from contextlib import ExitStack, nullcontext
+from contextlib import AbstractContextManager, ExitStack, nullcontext
 from datetime import date, datetime
-from functools import partial
 from pathlib import Path
 
 from .._arguments import add_cif, add_help, add_names, add_reading, new_parser, request_of
-from .._extract import Request, is_stream, open_extract
+from .._extract import is_stream, open_extract
 from .._files import check_inputs_stay, output_path
-from .._process import Cif, find_cif
+from .._process import find_cif
 from .._progress import Progress
 from .._running import leave_cycles, run, standard_output
 from ..errors import SUCCESS, Misused
-from ..verify.database import postgres_database, sqlite_database
+from ..verify.database import Database as VerifiedDatabase, PostgresDatabase, sqlite_database
 from ..verify.whole_database import Asked, Given, verify_database
 from ..user_csv import CONTROL
 from .database import make_database, reading_source, user_files
@@ -178,22 +177,18 @@ def verify(asked: argparse.Namespace, progress: Progress) -> int:
         raise Misused("--schema is for --postgres")
     dates = [date_of(text) for text in asked.date]
     given = Given(*given_files(asked))
+    request = request_of(asked, asked.extract)
+    opened: AbstractContextManager[VerifiedDatabase] = sqlite_database(asked.verify)
     if asked.postgres:
         schema = asked.schema if asked.schema is not None else "cif"
         check_schema(schema)
-        opened = partial(nullcontext, postgres_database(asked.verify, schema))
-        same = verify_database(opened, *compared(asked), given, Asked(dates, asked.place), progress)
-    else:
-        opened = partial(sqlite_database, asked.verify)
-        same = verify_database(opened, *compared(asked), given, Asked(dates, asked.place), progress)
+        opened = nullcontext(PostgresDatabase(asked.verify, schema))
+    wanted = Asked(dates, asked.place)
+    same = verify_database(opened, find_cif(asked.cif), request, given, wanted, progress)
     progress.clear()
     with standard_output() as output:
         output.write(f"{same}\n".encode())
     return SUCCESS
-
-
-def compared(asked: argparse.Namespace) -> tuple[Cif, Request]:
-    return find_cif(asked.cif), request_of(asked, asked.extract)
 
 
 def make_or_verify(asked: argparse.Namespace, progress: Progress) -> int:

@@ -1,7 +1,6 @@
 """A database of cif-sql, which is read by SELECT alone."""
 from __future__ import annotations
 
-import re
 import sqlite3
 import subprocess
 from collections.abc import Iterator, Sequence
@@ -14,7 +13,6 @@ from ..errors import Failed, Refused
 OURS = "a database of this release of cif-sql"
 # The status of psql if it can't connect.
 NO_CONNECTION = 2
-SCHEMA = re.compile("[a-z_][a-z0-9_]*")
 
 
 class Database:
@@ -101,9 +99,3 @@ class PostgresDatabase(Database):
                 if process.returncode == NO_CONNECTION:
                     raise Failed(f"psql can't read {self.name}: {said}")
                 raise Refused(f"{self.name} has no schema {self.schema} of cif-sql: {said}")
-
-
-def postgres_database(name: str, schema: str) -> Database:
-    if not SCHEMA.fullmatch(schema):
-        raise Refused(f"`{schema}` isn't a schema of cif-sql")
-    return PostgresDatabase(name, schema)

@@ -48,11 +48,24 @@ class Public(NamedTuple):
     pick_up: str
 
 
-class Trains(NamedTuple):
-    """All schedules by their numbers, and how many midnights there are within a train at most."""
+class Counted(NamedTuple):
+    """What trains are counted by."""
 
-    schedules: dict[str, Schedule]
-    midnights: int
+    operator: str
+    passenger: int
+    as_required: int
+
+
+class Days(NamedTuple):
+    """When a schedule runs."""
+
+    first: str
+    last: str
+    days_run: str
+
+
+# How many schedules have the same dates, and are counted together.
+Trains = Counter[tuple[Days, Counted]]
 
 
 def read_schedules(extract: Extract, form: str) -> dict[str, Schedule]:
@@ -66,8 +79,8 @@ def read_schedules(extract: Extract, form: str) -> dict[str, Schedule]:
     with table_of(extract, "schedules", form) as table:
         fields = "schedule uid first_date last_date days_run status category characteristics"
         cells_at = table.cells_at((*fields.split(), "operator_code"))
-        rows = (cells_at(line[:-1].split("\t")) for line in text_lines(table))
-        return {row[0]: Schedule(*row, changes.get(row[0], [])) for row in rows}
+        rows = [cells_at(line[:-1].split("\t")) for line in text_lines(table)]
+        return {row[0]: Schedule._make((*row, changes.get(row[0], []))) for row in rows}
 
 
 def public_rows(lines: Iterable[str]) -> Iterator[tuple[str, list[Public]]]:
@@ -117,11 +130,12 @@ def for_passengers(
     """Each schedule with its public calls."""
     with table_of(extract, "public", form) as table:
         groups = public_rows(text_lines(table))
-        number, calls = next(groups, ("", []))
+        none: tuple[str, list[Public]] = ("", [])
+        number, calls = next(groups, none)
         for schedule in schedules.values():
             if schedule.number == number:
                 yield schedule, calls
-                number, calls = next(groups, ("", []))
+                number, calls = next(groups, none)
             else:
                 yield schedule, []
 
@@ -131,7 +145,7 @@ def compare_derived(database: Database, extract: Extract, form: str, header: Hea
     and then how many trains run."""
     schedules = read_schedules(extract, form)
     linked = linked_uids(extract, form)
-    trains: Counter[tuple[str, str, str, str, int, int]] = Counter()
+    trains: Trains = Counter()
     midnights = 0
     calls_wanted: list[str] = []
 
@@ -140,7 +154,8 @@ def compare_derived(database: Database, extract: Extract, form: str, header: Hea
         for schedule, calls in for_passengers(extract, form, schedules):
             passenger = int(is_for_passengers(schedule, calls))
             as_required = int(bool(AS_REQUIRED & set(schedule.characteristics)))
-            trains[(*schedule[2:5], schedule.operator, passenger, as_required)] += 1
+            days = Days(schedule.first, schedule.last, schedule.days_run)
+            trains[days, Counted(schedule.operator, passenger, as_required)] += 1
             for call in calls:
                 midnights = max(midnights, int(call.departure.split(":")[0]) // 24)
                 off, on = flags_of(schedule, call)
@@ -161,7 +176,7 @@ def compare_derived(database: Database, extract: Extract, form: str, header: Hea
         [at] = [table.names.index("days_run")]
         days_run |= {line.split("\t")[at] for line in text_lines(table)}
     compare_dates(database, header, midnights, days_run)
-    compare_trains_per_day(database, header, trains)
+    compare_trains_per_day(database, trains)
 
 
 def compare_all(
@@ -212,18 +227,15 @@ def compare_dates(database: Database, header: Header, midnights: int, days_run: 
     )
 
 
-def compare_trains_per_day(
-    database: Database, header: Header, trains: Counter[tuple[str, str, str, str, int, int]]
-) -> None:
-    counts: Counter[tuple[str, str, int, int]] = Counter()
-    for (first, last, days_run, *counted), number in trains.items():
-        day, end = date.fromisoformat(first), date.fromisoformat(last)
-        while day <= end:
-            if days_run[day.weekday()] == "1":
-                operator, passenger, as_required = counted
-                counts[str(day), str(operator), int(passenger), int(as_required)] += number
+def compare_trains_per_day(database: Database, trains: Trains) -> None:
+    """Compares how many trains run on each date."""
+    counts: Counter[tuple[date, Counted]] = Counter()
+    for (days, counted), number in trains.items():
+        day, last = date.fromisoformat(days.first), date.fromisoformat(days.last)
+        while day <= last:
+            if days.days_run[day.weekday()] == "1":
+                counts[day, counted] += number
             day += timedelta(days=1)
+    wanted = ((day, *counted, number) for (day, counted), number in counts.items())
     columns = "date operator passenger as_required trains"
-    compare_all(
-        database, "trains_per_day", columns, ((*key, number) for key, number in counts.items())
-    )
+    compare_all(database, "trains_per_day", columns, wanted)

@@ -60,8 +60,8 @@ def compare_stations(database: Database, extract: Extract, given: Mapping[Key, P
     columns = "station_crs", "search"
     found = sorted(database.rows(columns, "FROM station_names"))
     compare_rows("table station_names, in order", columns, found, sorted(names))
-    for row in database.rows(("name", "search"), "FROM station_names"):
-        name, search = row.rstrip("\n").split("\t")
+    for line in database.rows(("name", "search"), "FROM station_names"):
+        name, search = line.rstrip("\n").split("\t")
         if search_text(name) != search:
             raise Different(f"table station_names: `{search}` isn't how `{name}` is searched")
 

@@ -1,7 +1,7 @@
 """A database against an extract."""
 from __future__ import annotations
 
-from collections.abc import Callable, Iterator, Mapping, Sequence
+from collections.abc import Iterator, Mapping, Sequence
 from contextlib import AbstractContextManager, contextmanager
 from dataclasses import replace
 from datetime import date
@@ -73,7 +73,7 @@ def compare_published(database: Database, extract: Extract) -> None:
 
 
 def verify_database(
-    opened: Callable[[], AbstractContextManager[Database]],
+    opened: AbstractContextManager[Database],
     cif: Cif,
     request: Request,
     given: Given,
@@ -81,7 +81,7 @@ def verify_database(
     progress: Progress,
 ) -> str:
     """What was compared, in words, if the database says what the extract says."""
-    with opened() as database:
+    with opened as database:
         loaded = what_is_loaded(database)
         with extract_as_loaded(cif, request, loaded) as extract:
             if asked.places:
