@@ -3,23 +3,24 @@ from __future__ import annotations
 
 import json
 from collections.abc import Sequence
+from datetime import date
 from typing import NamedTuple
 
 from .._extract import Extract, yymmdd
 from .._tables import heading_of
 from ..errors import Misused
 from .database import Database
-from .derived import (
+from .difference import Different, compare_rows
+from .riders import off_and_on
+from .schedules import (
     Public,
     Schedule,
     is_for_passengers,
     public_rows,
     read_schedules,
+    table_of,
+    text_lines,
 )
-from .difference import Different, compare_rows
-from .riders import off_and_on
-from .tables import table_of, text_lines
-from datetime import date
 
 RUNS = "uid identity origin departure destination arrival".split()
 RUNS_IN_CIF = "uid identity origin departure terminus arrival".split()

@@ -5,47 +5,29 @@ from __future__ import annotations
 from collections import Counter
 from collections.abc import Iterable, Iterator
 from datetime import date, timedelta
-from itertools import groupby
 from typing import NamedTuple
 
 from .._extract import Extract
 from ..model import Header
 from .database import Database
 from .difference import compare_rows
-from .riders import NEVER, off_and_on
-from .tables import table_of, text_lines
+from .riders import NEVER
+from .schedules import (
+    Public,
+    Schedule,
+    cells_of,
+    flags_of,
+    is_for_passengers,
+    public_rows,
+    read_schedules,
+    table_of,
+    text_lines,
+)
 
 AS_REQUIRED = set("QY")
 FOR_PASSENGERS = ("", "P")
 # How many days after the base train the associated one runs, by the date indicator.
 DAYS_LATER = {"S": 0, "N": 1, "P": -1}
-
-
-class Schedule(NamedTuple):
-    """A schedule: when it runs, what it is, and the categories that it gets from calls on."""
-
-    number: str
-    uid: str
-    first: str
-    last: str
-    days_run: str
-    status: str
-    category: str
-    characteristics: str
-    operator: str
-    changes: list[tuple[int, str]]
-
-
-class Public(NamedTuple):
-    """A row of `public`."""
-
-    call: int
-    location: str
-    platform: str
-    arrival: str
-    departure: str
-    set_down: str
-    pick_up: str
 
 
 class Counted(NamedTuple):
@@ -68,43 +50,10 @@ class Days(NamedTuple):
 Trains = Counter[tuple[Days, Counted]]
 
 
-def read_schedules(extract: Extract, form: str) -> dict[str, Schedule]:
-    """The schedules of an extract by their numbers, in order."""
-    changes: dict[str, list[tuple[int, str]]] = {}
-    with table_of(extract, "changes", form) as table:
-        cells_at = table.cells_at(("schedule", "call", "category"))
-        for line in text_lines(table):
-            schedule, call, category = cells_at(line[:-1].split("\t"))
-            changes.setdefault(schedule, []).append((int(call), category))
-    with table_of(extract, "schedules", form) as table:
-        fields = "schedule uid first_date last_date days_run status category characteristics"
-        cells_at = table.cells_at((*fields.split(), "operator_code"))
-        rows = [cells_at(line[:-1].split("\t")) for line in text_lines(table)]
-        return {row[0]: Schedule._make((*row, changes.get(row[0], []))) for row in rows}
-
-
-def public_rows(lines: Iterable[str]) -> Iterator[tuple[str, list[Public]]]:
-    """The rows of `public` of each schedule that has some, by its number."""
-    cells = (line[:-1].split("\t") for line in lines)
-    for number, rows in groupby(cells, key=lambda row: row[0]):
-        yield number, [Public(int(row[1]), *row[2:]) for row in rows]
-
-
 def by_clock(moment: str) -> str:
     """A moment HH:MM:SS, whose hours may go on past 24, by the clock."""
     hours, rest = moment.split(":", 1)
     return f"{int(hours) % 24:02}:{rest}"
-
-
-def flags_of(schedule: Schedule, call: Public) -> tuple[bool, bool]:
-    """Whether riders may get off at a call, and whether they may get on."""
-    off, on = off_and_on(schedule.status, schedule.category, schedule.changes, call.call)
-    return off and call.set_down != NEVER, on and call.pick_up != NEVER
-
-
-def is_for_passengers(schedule: Schedule, calls: Iterable[Public]) -> bool:
-    """Whether riders may get on or off at two calls or more."""
-    return sum(any(flags_of(schedule, call)) for call in calls) >= 2
 
 
 def riders_ends(calls: list[Public]) -> tuple[str, str]:
@@ -119,8 +68,7 @@ def riders_ends(calls: list[Public]) -> tuple[str, str]:
 def linked_uids(extract: Extract, form: str) -> set[str]:
     """The trains that associations for passengers name."""
     with table_of(extract, "associations", form) as table:
-        cells_at = table.cells_at(("base_uid", "associated_uid", "association_type"))
-        rows = [cells_at(line[:-1].split("\t")) for line in text_lines(table)]
+        rows = list(cells_of(table, ("base_uid", "associated_uid", "association_type")))
     return {uid for *uids, kind in rows if kind in FOR_PASSENGERS for uid in uids}
 
 
@@ -173,8 +121,7 @@ def compare_derived(database: Database, extract: Extract, form: str, header: Hea
     compare_rows("riders at public calls", names, rows, calls_wanted)
     days_run = {schedule.days_run for schedule in schedules.values()}
     with table_of(extract, "associations", form) as table:
-        [at] = [table.names.index("days_run")]
-        days_run |= {line.split("\t")[at] for line in text_lines(table)}
+        days_run |= {mask for _, mask in cells_of(table, ("base_uid", "days_run"))}
     compare_dates(database, header, midnights, days_run)
     compare_trains_per_day(database, trains)
 

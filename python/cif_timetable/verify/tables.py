@@ -5,14 +5,12 @@ what the extract says.
 """
 from __future__ import annotations
 
-from collections.abc import Iterator
-from contextlib import contextmanager
 from typing import NamedTuple
 
 from .._extract import Extract
-from .._tables import Table, heading_of
 from .database import Database
 from .difference import compare_rows
+from .schedules import table_of, text_lines
 
 
 class Loaded(NamedTuple):
@@ -69,18 +67,6 @@ TABLES = {
     "changes": of_schedules("changes", "sequence"),
     "public": of_schedules("public_calls", "number"),
 }
-
-
-@contextmanager
-def table_of(extract: Extract, name: str, form: str) -> Iterator[Table]:
-    """A table as `cif` writes it of the dates that are asked for, in a form."""
-    with extract.answer(["table", "--form", form, *extract.words], [name]) as lines:
-        yield heading_of(lines)
-
-
-def text_lines(table: Table) -> Iterator[str]:
-    """The rows of a table as texts."""
-    return (line.decode() for line in table.lines)
 
 
 def compare_tables(database: Database, extract: Extract, form: str) -> dict[str, int]:

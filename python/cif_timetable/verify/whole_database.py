@@ -19,7 +19,8 @@ from .days import check_commands, compare_day, compare_places
 from .derived import compare_derived
 from .difference import Different, compare_rows
 from .stations import compare_operators, compare_stations
-from .tables import Loaded, compare_tables, loaded_in, text_lines
+from .schedules import text_lines
+from .tables import Loaded, compare_tables, loaded_in
 
 
 class Asked(NamedTuple):
