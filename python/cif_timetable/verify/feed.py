@@ -56,10 +56,11 @@ def parts_in_order(block: str, trips: list[str], following: Mapping[str, list[st
         trip: [other for other in following.get(trip, ()) if other in trips] for trip in trips
     }
     after = {other for others in inside.values() for other in others}
-    found = [trip for trip in trips if trip not in after]
-    while len(found) < len(trips) and found and len(inside[found[-1]]) == 1:
+    starts = [trip for trip in trips if trip not in after]
+    found = list(starts)
+    while len(found) < len(trips) and len(starts) == 1 and len(inside[found[-1]]) == 1:
         found += inside[found[-1]]
-    if len(found) != len(trips) or len(set(found)) != len(found):
+    if len(starts) != 1 or set(found) != set(trips) or len(found) != len(trips):
         raise Different(
             f"the trips {', '.join(sorted(trips))} of the block {block} aren't linked one to the next"
         )
