@@ -4,9 +4,11 @@ from __future__ import annotations
 import csv
 import io
 import zipfile
+from collections import defaultdict
 from collections.abc import Iterator, Sequence
 from contextlib import contextmanager
 from datetime import date
+from operator import itemgetter
 from typing import NamedTuple
 from urllib.parse import unquote
 
@@ -138,10 +140,12 @@ def rows_of(
                 heading = [field.strip() for field in next(rows, [])]
                 width = len(heading)
                 places = [heading.index(field) if field in heading else width for field in fields]
+                # two cells at least, as it gives a tuple of several alone
+                cells_at = itemgetter(*places, width)
                 for row in rows:
                     if row:
                         row += [""] * (width + 1 - len(row))
-                        yield tuple(row[place] for place in places)
+                        yield cells_at(row)[:-1]
             except (csv.Error, UnicodeDecodeError) as problem:
                 raise Refused(f"{archive.filename}: {file} can't be read: {problem}") from None
 
@@ -163,16 +167,17 @@ def services_of(archive: zipfile.ZipFile, window: Window) -> dict[str, int]:
             raise Different(f"{where} has two rows")
         first, last = day_of(start, where), day_of(end, where)
         services[service] = window.masked(first, last, "".join(marks))
-    seen: set[tuple[str, str]] = set()
     fields = ("service_id", "date", "exception_type")
+    known: dict[str, int] = {}
+    seen: defaultdict[str, int] = defaultdict(int)
     for service, text, kind in rows_of(archive, "calendar_dates", fields, needed=False):
-        where = f"calendar_dates.txt, service {service}, {text}"
-        if (service, text) in seen:
-            raise Different(f"{where} has two rows")
-        seen.add((service, text))
-        if kind not in (ADDED, REMOVED):
-            raise Different(f"{where}: exception_type is `{kind}`")
-        day = 1 << window.number(day_of(text, where))
+        if text not in known:
+            known[text] = 1 << window.number(day_of(text, f"calendar_dates.txt, service {service}"))
+        day = known[text]
+        if seen[service] & day or kind not in (ADDED, REMOVED):
+            problem = "two rows" if seen[service] & day else f"the exception_type `{kind}`"
+            raise Different(f"calendar_dates.txt, service {service}, {text} has {problem}")
+        seen[service] |= day
         others = services.get(service, 0) & ~day
         services[service] = others | day if kind == ADDED else others
     for service, dates in services.items():
@@ -186,8 +191,10 @@ def services_of(archive: zipfile.ZipFile, window: Window) -> dict[str, int]:
 
 def time_of(text: str) -> str:
     """A time with two digits of hours or more."""
+    if text[2:3] == ":":
+        return text
     text = text.strip()
-    return text if text[2:3] == ":" or text[3:4] == ":" else f"0{text}"
+    return f"0{text}" if text[1:2] == ":" else text
 
 
 def calls_of(archive: zipfile.ZipFile) -> dict[str, list[str]]:
