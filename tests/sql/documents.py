@@ -6,7 +6,7 @@ import re
 from gtfs.checks import TOP, Counts
 
 from .by_hand import EXAMPLE
-from .checks import Maker
+from .checks import Maker, sqlite_rows
 from .postgres import load, psql
 
 QUESTION = re.compile(r'^\$ sqlite3 timetable\.db "([^"]*)"\n((?:[^`$\n].*\n)*)', re.MULTILINE)

@@ -18,9 +18,11 @@ from .._extract import open_extract
 from .._files import check_inputs_stay, output_path
 from .._process import find_cif
 from .._progress import Progress
-from .._running import leave_cycles, run
+from .._running import leave_cycles, run, standard_output
 from ..errors import SUCCESS, Misused
+from ..places import read_places
 from ..user_csv import Mistake, mail_address, name_of_publisher, shown, web_address
+from ..verify import feed as verified
 from .conversion import Outputs, Wishes, convert, user_files
 from .feed import Attribution, Publisher
 from .trains import EXTENDED_TYPES, TYPES
@@ -39,8 +41,8 @@ Makes a GTFS feed of a CIF timetable extract, as it is published or as
 """
 STATUSES = """\
 statuses:
-  0  success
-  1  success, but stations have no coordinates, which GTFS requires:
+  0  success; for --verify: the same
+  1  for --verify: a difference, which is named; else success, but stations have no coordinates, which GTFS requires:
      --places-wanted lists them
   2  a usage error
   3  a file is refused: the same file will be refused again
@@ -85,6 +87,12 @@ def arguments_of(words: Sequence[str] | None) -> argparse.Namespace:
         "--places-wanted",
         metavar="FILE",
         help="a further file to write: places without coordinates, to fill in for --places",
+    )
+    add(
+        "--verify",
+        metavar="ZIP",
+        help="compare a feed with the extract that it was made of, with the same options, and write"
+        " nothing",
     )
     add(
         "-o",
@@ -169,7 +177,25 @@ def make_feed(asked: argparse.Namespace, progress: Progress) -> int:
     return WANTING
 
 
+def verify(asked: argparse.Namespace, progress: Progress) -> int:
+    """The status, after a feed is compared with the extract."""
+    for option, value in ("--trips", asked.trips), ("--places-wanted", asked.places_wanted):
+        if value is not None:
+            raise Misused(f"{option} is for a feed that is made, and --verify makes none")
+    wishes = verified.Wishes(asked.extended_types, asked.whole_trains)
+    given = read_places(asked.places)
+    with open_extract(find_cif(asked.cif), request_of(asked, asked.extract)) as extract:
+        same = verified.verify_feed(asked.verify, extract, given, wishes, progress)
+    progress.clear()
+    for line in same.left_out:
+        print(f"{PROGRAM}: {line}", file=sys.stderr)
+    with standard_output() as output:
+        output.write(f"{same.text}\n".encode())
+    return SUCCESS
+
+
 def main(words: Sequence[str] | None = None) -> int:
     asked = arguments_of(words)
     leave_cycles()
-    return run(PROGRAM, lambda progress: make_feed(asked, progress))
+    work = make_feed if asked.verify is None else verify
+    return run(PROGRAM, lambda progress: work(asked, progress))

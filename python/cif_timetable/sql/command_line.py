@@ -6,7 +6,8 @@ import os
 import re
 import sys
 from collections.abc import Sequence
-from contextlib import ExitStack
+from contextlib import AbstractContextManager, ExitStack, nullcontext
+from datetime import date, datetime
 from pathlib import Path
 
 from .._arguments import add_cif, add_help, add_names, add_reading, new_parser, request_of
@@ -16,6 +17,9 @@ from .._process import find_cif
 from .._progress import Progress
 from .._running import leave_cycles, run, standard_output
 from ..errors import SUCCESS, Misused
+from ..verify.database import Database as VerifiedDatabase, PostgresDatabase, sqlite_database
+from ..verify.whole_database import Asked, Given, verify_database
+from ..user_csv import CONTROL
 from .database import make_database, reading_source, user_files
 from .loading import Loaded, UserFiles, load
 from .postgres import PostgresScript, check_schema
@@ -32,7 +36,8 @@ psql that loads it into PostgreSQL. The extract is as it is published or as
 """
 STATUSES = """\
 statuses:
-  0  success
+  0  success; for --verify: the same
+  1  for --verify: a difference, which is named
   2  a usage error
   3  a file is refused, or the database is of a later extract, or isn't one of
      cif-sql
@@ -63,6 +68,27 @@ def arguments_of(words: Sequence[str] | None) -> argparse.Namespace:
         "--verbose",
         action="store_true",
         help="count the calls whose location has no TI",
+    )
+    add(
+        "--verify",
+        metavar="DATABASE",
+        help="compare a database with the extract that was loaded into it, and write nothing;"
+        " with --postgres a database of PostgreSQL, by its name or its connection string",
+    )
+    add(
+        "--date",
+        action="append",
+        default=[],
+        metavar="DATE",
+        help="for --verify: compare what runs on this date, too; for each an option",
+    )
+    add(
+        "--place",
+        action="append",
+        default=[],
+        metavar="PLACE",
+        help="for --verify: compare departures and arrivals at this TIPLOC or CRS code on these"
+        " dates, too; for each an option",
     )
     add_cif(parser)
     add_help(parser)
@@ -127,8 +153,53 @@ def write_script(asked: argparse.Namespace, progress: Progress) -> int:
     return SUCCESS
 
 
+def date_of(text: str) -> date:
+    """A date as `cif` takes it: 260114 or 2026-01-14."""
+    try:
+        if len(text) == 6 and text.isascii() and text.isdigit():
+            century = "19" if text >= "60" else "20"
+            return datetime.strptime(century + text, "%Y%m%d").date()
+        if len(text) == 10 and text.isascii():
+            return datetime.strptime(text, "%Y-%m-%d").date()
+    except ValueError:
+        pass
+    raise Misused(f"--date {CONTROL.sub('?', text)}: a date is 260114 or 2026-01-14")
+
+
+def verify(asked: argparse.Namespace, progress: Progress) -> int:
+    """The status, after a database is compared with the extract."""
+    for option, value in ("-o", asked.output), ("--force", asked.force), ("-v", asked.verbose):
+        if value:
+            raise Misused(f"{option} is for a database that is written, and --verify writes none")
+    if asked.place and not asked.date:
+        raise Misused("--place compares on dates: --date says on which")
+    if asked.schema is not None and not asked.postgres:
+        raise Misused("--schema is for --postgres")
+    dates = [date_of(text) for text in asked.date]
+    given = Given(*given_files(asked))
+    request = request_of(asked, asked.extract)
+    opened: AbstractContextManager[VerifiedDatabase] = sqlite_database(asked.verify)
+    if asked.postgres:
+        schema = asked.schema if asked.schema is not None else "cif"
+        check_schema(schema)
+        opened = nullcontext(PostgresDatabase(asked.verify, schema))
+    wanted = Asked(dates, asked.place)
+    same = verify_database(opened, find_cif(asked.cif), request, given, wanted, progress)
+    progress.clear()
+    with standard_output() as output:
+        output.write(f"{same}\n".encode())
+    return SUCCESS
+
+
+def make_or_verify(asked: argparse.Namespace, progress: Progress) -> int:
+    if asked.verify is not None:
+        return verify(asked, progress)
+    if asked.date or asked.place:
+        raise Misused("--date and --place are for --verify")
+    return write_script(asked, progress) if asked.postgres else make_file(asked, progress)
+
+
 def main(words: Sequence[str] | None = None) -> int:
     asked = arguments_of(words)
     leave_cycles()
-    make = write_script if asked.postgres else make_file
-    return run(PROGRAM, lambda progress: make(asked, progress))
+    return run(PROGRAM, lambda progress: make_or_verify(asked, progress))

@@ -8,9 +8,9 @@ from contextlib import ExitStack
 from dataclasses import astuple
 from datetime import timedelta
 from operator import itemgetter
-from typing import IO, NamedTuple
+from typing import IO, Any, NamedTuple
 
-from .._extract import Extract
+from .._extract import FORM, Extract
 from .._files import BLOCK, scratch_file
 from .._progress import Progress
 from .._schedules import calls_by_schedule, numbered
@@ -169,6 +169,12 @@ def with_number(number: int, text: bytes) -> bytes:
     return start + text[:-1].replace(b"\n", b"\n" + start) + b"\n" if text else b""
 
 
+def in_sequence(number: int, text: bytes) -> bytes:
+    """Rows with the number of their journey, and their own from 1."""
+    rows = enumerate(text.splitlines(keepends=True), 1)
+    return b"".join(b"%d\t%d\t%s" % (number, place, row) for place, row in rows)
+
+
 class Moment(NamedTuple):
     """A moment HH:MM:SS in seconds, and by the clock. Hours may go on past 24."""
 
@@ -268,7 +274,8 @@ class Journeys:
             raise Unexpected("cif writes another table of public calls: is it another release?")
         self.journeys = Filler(database, "journeys", ("id", "uid"))
         self.calls = Filler(database, "calls", in_database(calls))
-        self.changes = Filler(database, "changes", in_database(changes))
+        journey, *others = in_database(changes)
+        self.changes = Filler(database, "changes", [journey, "sequence", *others])
         self.public_calls = Filler(database, "public_calls", PUBLIC_CALLS)
         self.public = PublicCalls(places)
         self.origin = itemgetter(*(calls.index(name) - 1 for name in ("location", "departure")))
@@ -315,7 +322,7 @@ class Journeys:
         if self.midnights > MOST_MIDNIGHTS:
             most = f"a database has at most {MOST_MIDNIGHTS} in a train"
             raise Refused(f"{self.uid} has calls after {self.midnights} midnights: {most}")
-        self.changes.add(with_number(self.count, changes))
+        self.changes.add(in_sequence(self.count, changes))
         return Journey(self.count, int(for_riders >= 2), f"{self.ends_of(calls)}\t{ends}")
 
     def unknown(self) -> dict[str, int]:
@@ -463,6 +470,14 @@ def load_published(database: Database, extract: Extract) -> None:
             filler.flush()
 
 
+def fill_in_order(
+    database: Database, table: str, kind: type[object], records: Iterable[Any]
+) -> None:
+    """Fills a table with records of a kind, numbered in their order."""
+    rows = ((number, *astuple(record)) for number, record in enumerate(records, 1))
+    database.fill(table, ["id", *fields_of(kind)], rows_of(rows))
+
+
 def load(
     extract: Extract,
     source: Callable[[], Source],
@@ -476,9 +491,10 @@ def load(
     window = Window(header.first_date, header.last_date)
     tiplocs = extract.rows("tiplocs", Location)
     places = Places(tiplocs, given.places)
+    fill_in_order(database, "tiplocs", Location, tiplocs)
     load_places(database, tiplocs, places)
     associations = extract.rows("associations", Association)
-    database.fill("associations", list(fields_of(Association)), rows_of(map(astuple, associations)))
+    fill_in_order(database, "associations", Association, associations)
     linked = {
         uid
         for association in associations
@@ -490,7 +506,7 @@ def load(
     load_dates(database, window, trains.midnights)
     of_associations = {association.days_run for association in associations}
     load_weekdays(database, trains.days_run | of_associations)
-    about = [*astuple(header), moment_of(header), *source()]
-    names = (*fields_of(Header), "extracted_at", *Source._fields)
+    about = [*astuple(header), FORM, moment_of(header), *source()]
+    names = (*fields_of(Header), "form", "extracted_at", *Source._fields)
     database.fill("extract", names, rows_of([about]))
     return Loaded(trains.unknown)

@@ -2,7 +2,8 @@
 -- `cif table`, but `operator` is its operator_code, and `journey` and `number` stand for its schedule and call. A field
 -- without a value is NULL. SQLite looks at no foreign key unless it is told to; PostgreSQL gets them once the tables are full.
 
--- One row: the header, the window asked for, and what was loaded by what. `extracted_at` is NULL if the header has no such time.
+-- One row: the header, the window and the form asked for, and what was loaded by what. `extracted_at` is NULL if the header has no such
+-- time.
 CREATE TABLE extract (
     mainframe_identity text,
     extract_date text,
@@ -13,11 +14,26 @@ CREATE TABLE extract (
     version text,
     first_date date NOT NULL,
     last_date date NOT NULL,
+    form integer NOT NULL,
     extracted_at text,
     file_name text NOT NULL,
     sha256 text NOT NULL,
     cif_version text NOT NULL,
     loaded_at text NOT NULL
+);
+
+-- The records TI as they stand, in the order of the extract.
+CREATE TABLE tiplocs (
+    id integer PRIMARY KEY,
+    tiploc text,
+    capitals text,
+    nalco text,
+    nlc_check text,
+    tps_description text,
+    stanox text,
+    po_mcp_code text,
+    crs_code text,
+    description text
 );
 
 -- A row for each station, by its CRS code.
@@ -99,9 +115,10 @@ CREATE TABLE public_calls (
     FOREIGN KEY (station_crs) REFERENCES stations (crs)
 ) WITHOUT ROWID;
 
--- Changes en route. `number` is that of the call that follows.
+-- Changes en route, in their order by `sequence`, from 1. `number` is that of the call that follows.
 CREATE TABLE changes (
     journey integer NOT NULL,
+    sequence integer NOT NULL,
     number integer NOT NULL,
     location text,
     suffix text,
@@ -175,7 +192,9 @@ CREATE TABLE schedules (
     FOREIGN KEY (journey) REFERENCES journeys (id)
 );
 
+-- In the order of the extract by `id`, from 1.
 CREATE TABLE associations (
+    id integer PRIMARY KEY,
     base_uid text NOT NULL,
     associated_uid text NOT NULL,
     first_date date NOT NULL,
