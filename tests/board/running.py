@@ -40,11 +40,11 @@ def served(*words: object) -> Iterator[Tuple[subprocess.Popen[str], int]]:
             yield process, int(found[1])
         finally:
             process.terminate()
-            process.wait(timeout=20)
+            process.wait(timeout=60)
 
 
 def asked(port: int, address: str, host: str = "localhost", raw: bool = False) -> Tuple[int, bytes]:
-    connection = http.client.HTTPConnection("127.0.0.1", port, timeout=20)
+    connection = http.client.HTTPConnection("127.0.0.1", port, timeout=60)
     with closing(connection):
         if raw:
             connection.putrequest("GET", address, skip_host=True)
@@ -62,7 +62,7 @@ def ended(*words: object, environment: Dict[str, str] = ENVIRONMENT) -> Tuple[in
         capture_output=True,
         text=True,
         env=environment,
-        timeout=20,
+        timeout=60,
         check=False,
     )
     return done.returncode, done.stdout, done.stderr
@@ -87,12 +87,12 @@ def check_served(counts: Counts, made: Made) -> None:
             if address:
                 counts.test("another machine is refused", other.connect_ex((address, port)) != 0)
         process.send_signal(signal.SIGINT)
-        ends = process.communicate(timeout=20)
+        ends = process.communicate(timeout=60)
         counts.same("an interrupt ends it", (0, "", ""), (process.returncode, *ends))
     with served("--host", "board.example", database) as (process, port):
         counts.same("a further host", 200, asked(port, "/", f"board.example:{port}")[0])
         process.terminate()
-        counts.same("SIGTERM ends it", 0, process.wait(timeout=20))
+        counts.same("SIGTERM ends it", 0, process.wait(timeout=60))
 
 
 def own_addresses() -> List[str]:
