@@ -190,7 +190,9 @@ def check_all_links(counts: Counts, name: str, board: Board) -> None:
                 category = row["association_category"]
                 base, associated = row["base_uid"], row["associated_uid"]
                 wanted[base, str(day)].append((category, associated))
-                wanted[associated, str(day + later)].append((category, base))
+                # on which date it is for any other indicator, nobody knows
+                if row["date_indicator"] in (None, "S", "N", "P"):
+                    wanted[associated, str(day + later)].append((category, base))
     for uid in sorted({uid for uid, _ in wanted})[:MOST_TRAINS]:
         for day in board.dates:
             # associations may name trains that are nowhere
