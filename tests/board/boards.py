@@ -152,7 +152,7 @@ def check_cif(counts: Counts, name: str, made: Made, board: Board) -> None:
             ("arrivals", board.expected.arrivals),
         )
     }
-    for day in some_dates(board)[:6]:
+    for day in some_dates(board):
         for kind, known in riders.items():
             for code in stations(board):
                 names = "time train_date uid location call".split()
