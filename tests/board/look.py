@@ -142,7 +142,7 @@ def check_keyboard(counts: Counts, browser: Browser, base: str, script: bool) ->
         browser.value('document.getElementById("q").focus()')
     browser.call("Input.insertText", text="Haywards Heath")
     press(browser, "Enter", 13, "\r")
-    path = "location.pathname"
+    path = 'document.readyState === "complete" && location.pathname'
     counts.same(
         f"{name} script, the board",
         "/station/HHE/2026-06-05",

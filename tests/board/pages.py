@@ -24,7 +24,8 @@ GENERATED, SEED = 150, 5
 
 # From Monday 5 to Sunday 11 January 2026. F00001 is freight over midnight, with a pass before it and one after it, which isn't for riders;
 # Q00001 runs as required; E00001 is unadvertised, with public times; N00001 stops for picking up, on request; and names are
-# HTML. R00001 calls twice at Alpha, the second time after midnight. " 00001" begins with a blank.
+# HTML. S00001 and S00002 have a time before the one before it: by less than an hour, so that no midnight is between them. V00001 gets
+# another identity on the Thursday. R00001 calls twice at Alpha, the second time after midnight. " 00001" begins with a blank.
 SPECIAL = r"""
 HDTPS.UTEST01.PD2601040401262130DFTEST1       FA050126110126
 TIALPHA  00890500AALPHA <B>JUNCTION</B>     032010000ALPALPHA
@@ -62,6 +63,24 @@ BX         SRY
 LOALPHA   2350 23501         TB
 LIBETA    2355 2356      23552356         T
 LTALPHA   0005 0005      TF
+BSNS000012601052601111111111 POO1S01    122104000 EMU    090      B            P
+BX         SRY
+LOALPHA   0010 00101         TB
+LIBETA    2350 2352      23502352         T
+LTGAMMA   0030 0030      TF
+BSNS000022601052601111111111 POO1S02    122104000 EMU    090      B            P
+BX         SRY
+LOALPHA   1000 10001         TB
+LIBETA    0930 0932      09300932         T
+LTGAMMA   1030 1030      TF
+BSNV000012601052601071110000 POO1V01    122104000 EMU    090      B            P
+BX         SRY
+LOALPHA   1100 11001         TB
+LTBETA    1130 1130      TF
+BSNV000012601082601110001111 POO1V02    122104000 EMU    090      B            P
+BX         SRY
+LOALPHA   1100 11001         TB
+LTBETA    1130 1130      TF
 ZZ
 """
 

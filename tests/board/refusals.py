@@ -85,6 +85,8 @@ def check_addresses(counts: Counts, made: Made) -> None:
         text = squeezed(answer.text.replace("&#39;", "’").replace("'", "’"))
         counts.test(f"{address} says: {words}", words in text, text)
         counts.test(f"{address} is a page", "<main" in text and "To the search" in text)
+    for day in board.dates[0], board.dates[-1]:
+        counts.same(f"{day}", 200, board.client.get(f"/station/HHE/{day}").status_code)
     answer = board.client.get("/station/HHE/2026-06-31.json")
     told = {"error": "2026-06-31 isn't a date. A date is written 2026-06-05."}
     counts.same("a bad address as JSON", (400, told), (answer.status_code, answer.json))

@@ -15,6 +15,8 @@ from contextlib import closing, contextmanager
 from pathlib import Path
 from typing import Dict, List, Tuple
 
+from cif_timetable.board.queries import open_timetable
+from cif_timetable.errors import CifError
 from gtfs.checks import PROGRAMS, TOP, Counts
 
 from .pages import EXAMPLES, Made
@@ -30,8 +32,14 @@ BOARD = "/station/GTW/2026-06-06.json"
 def served(*words: object) -> Iterator[Tuple[subprocess.Popen[str], int]]:
     """A server on a free port, and this port."""
     call = [str(word) for word in (PROGRAM, "--port", "0", *words)]
-    with subprocess.Popen(
-        call, stdout=subprocess.PIPE, stderr=subprocess.PIPE, text=True, env=ENVIRONMENT
+    # a shell may have it ignore interrupts, and no thread runs then
+    with subprocess.Popen(  # pylint: disable=subprocess-popen-preexec-fn
+        call,
+        stdout=subprocess.PIPE,
+        stderr=subprocess.PIPE,
+        text=True,
+        env=ENVIRONMENT,
+        preexec_fn=lambda: signal.signal(signal.SIGINT, signal.SIG_DFL),
     ) as process:
         assert process.stdout is not None
         found = re.fullmatch(r"http://127\.0\.0\.1:(\d+)/\n", process.stdout.readline())
@@ -40,11 +48,11 @@ def served(*words: object) -> Iterator[Tuple[subprocess.Popen[str], int]]:
             yield process, int(found[1])
         finally:
             process.terminate()
-            process.wait(timeout=20)
+            process.wait(timeout=60)
 
 
 def asked(port: int, address: str, host: str = "localhost", raw: bool = False) -> Tuple[int, bytes]:
-    connection = http.client.HTTPConnection("127.0.0.1", port, timeout=20)
+    connection = http.client.HTTPConnection("127.0.0.1", port, timeout=60)
     with closing(connection):
         if raw:
             connection.putrequest("GET", address, skip_host=True)
@@ -62,7 +70,7 @@ def ended(*words: object, environment: Dict[str, str] = ENVIRONMENT) -> Tuple[in
         capture_output=True,
         text=True,
         env=environment,
-        timeout=20,
+        timeout=60,
         check=False,
     )
     return done.returncode, done.stdout, done.stderr
@@ -87,12 +95,12 @@ def check_served(counts: Counts, made: Made) -> None:
             if address:
                 counts.test("another machine is refused", other.connect_ex((address, port)) != 0)
         process.send_signal(signal.SIGINT)
-        ends = process.communicate(timeout=20)
+        ends = process.communicate(timeout=60)
         counts.same("an interrupt ends it", (0, "", ""), (process.returncode, *ends))
     with served("--host", "board.example", database) as (process, port):
         counts.same("a further host", 200, asked(port, "/", f"board.example:{port}")[0])
         process.terminate()
-        counts.same("SIGTERM ends it", 0, process.wait(timeout=20))
+        counts.same("SIGTERM ends it", 0, process.wait(timeout=60))
 
 
 def own_addresses() -> List[str]:
@@ -202,6 +210,13 @@ def check_read_only(counts: Counts, made: Made) -> None:
     path = folder / "timetable.db"
     shutil.copy(made.examples.path, path)
     before = path.read_bytes()
+    try:
+        with open_timetable(path) as timetable:
+            timetable.connection.execute("CREATE TABLE written (column_1 text)")
+        told = "written"
+    except CifError as problem:
+        told = str(problem)
+    counts.test("a connection can't write", "readonly" in told, told)
     with served(path) as (_, port):
         for address in "/", BOARD, "/operators", "/train/W20347/2026-06-05":
             counts.same(f"read only, {address}", 200, asked(port, address)[0])

@@ -4,9 +4,9 @@ from __future__ import annotations
 import re
 import shutil
 import sqlite3
-from collections import Counter
+from collections import Counter, defaultdict
 from contextlib import closing
-from datetime import date, timedelta
+from datetime import timedelta
 from itertools import groupby
 from typing import Any, Dict, List, Tuple
 
@@ -27,6 +27,7 @@ ENDS = {
 }
 # So many trains of an extract are looked at.
 MOST_TRAINS = 25
+NO_TRAIN: Dict[str, Any] = {"train": None, "associations": []}
 
 
 def uids(board: Board) -> List[str]:
@@ -175,31 +176,35 @@ def check_links(counts: Counts, made: Made) -> None:
         )
         counts.same(f"the associations of {uid}", words, text)
         counts.test(f"the associations of {uid}, the link", f'href="/train/{address}"' in page)
-    for each in board.dates:
-        check_links_on(counts, board, each)
+    for name in "timetable", "many":
+        check_all_links(counts, name, made.boards[name])
 
 
-def check_links_on(counts: Counts, board: Board, day: date) -> None:
-    """Each association of a date, from both of its trains."""
-    for row in board.cif("day", f"{day:%y%m%d}"):
-        if row["kind"] != "AA":
-            continue
-        later = timedelta(days={"N": 1, "P": -1}.get(row["date_indicator"], 0))
-        for role, other, own in (
-            ("base_uid", "associated_uid", day),
-            ("associated_uid", "base_uid", day + later),
-        ):
-            if own not in board.dates:
-                continue
-            data = board.data(f"/train/{row[role]}/{own}.json")
-            found = [
-                each["other_uid"]
-                for each in data["associations"]
-                if each["category"] == row["association_category"]
-            ]
-            wanted = [row[other]] if data["train"] else []
+def check_all_links(counts: Counts, name: str, board: Board) -> None:
+    """The associations of each date, from both of their trains."""
+    wanted: Dict[Tuple[str, str], List[Tuple[str, str]]] = defaultdict(list)
+    for day in board.dates:
+        for row in board.cif("day", f"{day:%y%m%d}"):
+            if row["kind"] == "AA":
+                later = timedelta(days={"N": 1, "P": -1}.get(row["date_indicator"], 0))
+                category = row["association_category"]
+                base, associated = row["base_uid"], row["associated_uid"]
+                wanted[base, str(day)].append((category, associated))
+                # on which date it is for any other indicator, nobody knows
+                if row["date_indicator"] in (None, "S", "N", "P"):
+                    wanted[associated, str(day + later)].append((category, base))
+    for uid in sorted({uid for uid, _ in wanted})[:MOST_TRAINS]:
+        for day in board.dates:
+            # associations may name trains that are nowhere
+            answer = board.client.get(address_of(uid, str(day)) + ".json")
+            data = answer.json if answer.status_code == 200 else NO_TRAIN
+            assert data is not None
+            got = [(each["category"], each["other_uid"]) for each in data["associations"]]
+            want = wanted[uid, str(day)] if data["train"] else []
             counts.same(
-                f"{row[role]} on {own}", wanted, [uid for uid in found if uid == row[other]]
+                f"{name}, the associations of {uid} on {day}",
+                sorted(want, key=str),
+                sorted(got, key=str),
             )
 
 
@@ -233,6 +238,8 @@ def check_words(counts: Counts, made: Made) -> None:
         "as required",
         "<strong>runs as required</strong>" in made.special.get("/train/Q00001/2026-01-06"),
     )
+    text = squeezed(made.special.get("/train/V00001/2026-01-05"))
+    counts.test("a version in words", "train identity 1V02, not 1V01" in text, text)
     notes = squeezed(made.special.get("/train/N00001/2026-01-06"))
     counts.test("activities in words", "on request" in notes and "picks up only" in notes, notes)
 

@@ -3,6 +3,7 @@ from __future__ import annotations
 
 import argparse
 import errno
+import logging
 import signal
 import sys
 import webbrowser
@@ -115,6 +116,8 @@ def serve(asked: argparse.Namespace) -> int:
         if problem.errno == errno.EADDRINUSE:
             raise Failed(f"port {asked.port} is taken: --port names another") from None
         raise Failed(f"{asked.listen}: {problem.strerror or problem}") from None
+    # many requests at once are no fault
+    logging.getLogger("waitress.queue").setLevel(logging.ERROR)
     for number in INTERRUPTS:
         if signal.getsignal(number) != signal.SIG_IGN:
             signal.signal(number, stop)
