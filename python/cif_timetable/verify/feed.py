@@ -272,7 +272,10 @@ def compare_stops(feed: Feed, stops: Stops) -> None:
     places = stops.places
     wanted: dict[str, Stop] = {}
     located = {}
+    called = {row.split("\t", 1)[0] for trip in feed.trips.values() for row in trip.calls}
     for (location, platform), stop in stops.used.items():
+        if stop not in called:
+            continue
         tiploc = places.tiploc(location)
         station = f"station:{coded(tiploc.station_crs)}" if tiploc.station_crs else ""
         name = tiploc.given_name or places.station_name(location)
