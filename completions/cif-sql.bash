@@ -2,11 +2,11 @@
 
 _cif_sql() {
     local written=${COMP_WORDS[COMP_CWORD]} before=${COMP_WORDS[COMP_CWORD - 1]}
-    local options='--from --to --holidays --drop-clashes --places --operators --postgres --schema --force -o --output -v --verbose --cif -h --help -V --version'
+    local options='--from --to --holidays --drop-clashes --places --operators --postgres --schema --force -o --output -v --verbose --verify --date --place --cif -h --help -V --version'
     COMPREPLY=()
     case $before in
-    --holidays | --places | --operators | -o | --output | --cif) compopt -o default ;;
-    --from | --to | --schema) ;;
+    --holidays | --places | --operators | -o | --output | --verify | --cif) compopt -o default ;;
+    --from | --to | --schema | --date | --place) ;;
     *)
         if [[ $written == -* ]]; then
             mapfile -t COMPREPLY < <(compgen -W "$options" -- "$written")

@@ -4,8 +4,10 @@ from __future__ import annotations
 
 import csv
 import io
+import os
 import random
 import zipfile
+from concurrent.futures import ThreadPoolExecutor
 from pathlib import Path
 from typing import Callable, Dict, List, Sequence, Tuple
 
@@ -17,6 +19,7 @@ SAMPLES = TOP / "tests" / "feeds"
 # Small generated extracts in this suite; many more have been tried outside of it.
 GENERATED = 6
 SCHEDULES = 60
+OPTIONS: Tuple[Tuple[str, ...], ...] = ((), ("--whole-trains",), ("--extended-types",))
 
 Rows = List[List[str]]
 Files = Dict[str, Rows]
@@ -280,12 +283,17 @@ def verify(maker: Maker, *words: object) -> Tuple[int, str]:
 def check_planted(counts: Counts, maker: Maker) -> None:
     """Each planted fault is found, and named."""
     _, texts = maker.feed(EXAMPLE)
-    planted = maker.folder / "planted.zip"
-    for name, edit, words in PLANTED:
+
+    def said_of(number: int) -> Tuple[int, str]:
         files = {file: rows_of(text) for file, text in texts.items()}
-        edit(files)
+        PLANTED[number][1](files)
+        planted = maker.folder / f"planted{number}.zip"
         write_zip(planted, files)
-        status, said = verify(maker, planted, EXAMPLE)
+        return verify(maker, planted, EXAMPLE)
+
+    with ThreadPoolExecutor(os.cpu_count()) as threads:
+        answers = list(threads.map(said_of, range(len(PLANTED))))
+    for (name, _, words), (status, said) in zip(PLANTED, answers):
         found = status == 1 and all(word in said for word in words) and said.count("\n") == 1
         counts.test(f"planted in a feed: {name}", found, (status, said))
 
@@ -335,8 +343,9 @@ def check_same(counts: Counts, maker: Maker) -> None:
         counts.test(f"the feed of {words[-1]}", status == 0, said)
     for seed in range(GENERATED):
         many.write_bytes(generated.extract(random.Random(seed), SCHEDULES))
-        maker.feed(many)
-        status, said = verify(maker, "feed.zip", many)
+        options = OPTIONS[seed % len(OPTIONS)]
+        maker.feed(*options, many)
+        status, said = verify(maker, "feed.zip", *options, many)
         counts.test(f"the feed of the generated extract {seed}", status == 0, said)
 
 

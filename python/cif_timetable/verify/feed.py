@@ -3,7 +3,7 @@ between them."""
 from __future__ import annotations
 
 from collections import defaultdict
-from collections.abc import Iterator, Mapping, Sequence
+from collections.abc import Collection, Iterator, Mapping, Sequence
 from typing import NamedTuple
 
 from .._extract import Extract
@@ -14,7 +14,8 @@ from .difference import Different
 from .links import DAY, Linked, Links, expected_links, read_associations, seconds_of
 from .riders import NEVER
 from .trains import EXTENDED_TYPES, TYPES, OnDates, Reader, Stops, Trains, coded, text_of
-from .zipped import About, Feed, Link, Stop, Trip, Window, read_feed
+from .whole import whole_on_dates
+from .zipped import About, Feed, Link, Stop, Window, read_feed
 
 STOP, STATION = "0", "1"
 
@@ -112,7 +113,14 @@ def is_hidden(rows: Sequence[str]) -> bool:
 class Found:
     """The trains and links of a feed, each train on its own dates."""
 
-    def __init__(self, feed: Feed, wanted: Mapping[str, OnDates], window: Window) -> None:
+    def __init__(
+        self,
+        feed: Feed,
+        wanted: Mapping[str, OnDates],
+        window: Window,
+        linked_uids: Collection[str],
+    ) -> None:
+        self.linked_uids = linked_uids
         self.feed = feed
         self.wanted = wanted
         self.window = window
@@ -128,7 +136,8 @@ class Found:
         known = self.wanted.get(whole.uid, {})
         if known.get((whole.about, whole.text), 0) & whole.dates == whole.dates:
             return 0
-        if not any(trip in self.linked for trip in whole.trips):
+        is_linked = whole.uid in self.linked_uids or any(map(self.linked.__contains__, whole.trips))
+        if not is_linked:
             return 0
         if whole.text and all(row.split("\t")[2] >= "24" for row in whole.text.split("\n")):
             earlier = later_text(whole.text, -1)
@@ -263,7 +272,10 @@ def compare_stops(feed: Feed, stops: Stops) -> None:
     places = stops.places
     wanted: dict[str, Stop] = {}
     located = {}
+    called = {row.split("\t", 1)[0] for trip in feed.trips.values() for row in trip.calls}
     for (location, platform), stop in stops.used.items():
+        if stop not in called:
+            continue
         tiploc = places.tiploc(location)
         station = f"station:{coded(tiploc.station_crs)}" if tiploc.station_crs else ""
         name = tiploc.given_name or places.station_name(location)
@@ -327,15 +339,18 @@ def verify_feed(
     associations = read_associations(extract, window)
     uids = {uid for terms in associations for uid in (terms.base, terms.associated)}
     trains = Reader(window, stops, types).read(extract, uids)
-    links = expected_links(extract, associations, trains.linked, stops, window)
-    wanted = dict(trains.plain)
+    links = expected_links(extract, associations, trains.linked, stops, window, wishes.whole_trains)
+    linked: dict[str, OnDates] = {}
     for uid, of_uid in trains.linked.items():
-        on_dates = wanted[uid] = {}
+        on_dates = linked[uid] = {}
         for train in of_uid:
             key = train.about, text_of(train.calls, stops)
             on_dates[key] = on_dates.get(key, 0) | train.dates
+    if wishes.whole_trains:
+        linked = whole_on_dates(linked, links.shown, stops, window)
+    wanted = {**trains.plain, **linked}
     progress.show("comparing")
-    found = Found(feed, wanted, window)
+    found = Found(feed, wanted, window, linked if wishes.whole_trains else ())
     for whole in whole_trains(feed, following_in(feed)):
         found.add(whole)
     compare_trains(found.trains, wanted, window)

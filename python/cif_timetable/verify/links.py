@@ -12,6 +12,7 @@ from datetime import date
 from typing import NamedTuple
 
 from .._extract import FORM, Extract
+from .riders import NEVER
 from .schedules import Public, cells_of, table_of
 from .trains import PublicTrain, Stops
 from .zipped import Window
@@ -77,6 +78,8 @@ class Call(NamedTuple):
     platform: str
     arrival: int
     departure: int
+    set_down: str
+    pick_up: str
 
 
 def seconds_of(moment: str) -> int:
@@ -114,7 +117,7 @@ def hidden_call(stop: Stop, before: Call | None, after: Call | None) -> Call:
     departure = max(arrival, departure)
     if after:
         arrival, departure = min(arrival, after.arrival), min(departure, after.arrival)
-    return Call(stop.location, stop.platform, arrival, departure)
+    return Call(stop.location, stop.platform, arrival, departure, NEVER, NEVER)
 
 
 class Train:
@@ -124,6 +127,7 @@ class Train:
     def __init__(self, train: PublicTrain, stops: Sequence[Stop], spots: Iterable[Spot]) -> None:
         self.dates = train.dates
         numbers = [call.call for call in train.calls]
+        self.public = numbers
         self.first, self.last = numbers[0], numbers[-1]
         self.calls = {call.call: call_of(call) for call in train.calls}
         self.at: dict[Spot, int] = {}
@@ -151,7 +155,8 @@ class Train:
 
 
 def call_of(call: Public) -> Call:
-    return Call(call.location, call.platform, seconds_of(call.arrival), seconds_of(call.departure))
+    times = seconds_of(call.arrival), seconds_of(call.departure)
+    return Call(call.location, call.platform, *times, call.set_down, call.pick_up)
 
 
 def is_at(stop: Stop, spot: Spot) -> bool:
@@ -183,9 +188,10 @@ class Linked(NamedTuple):
 
 
 class Links(NamedTuple):
-    """The dates of all links, each by the date of its first train, how many dates of associations are
-    left out by reason, and one of them."""
+    """The associations that are shown, the dates of all links, each by the date of its first train, how
+    many dates of associations are left out by reason, and one of them."""
 
+    shown: list[Shown]
     dates: dict[Linked, int]
     left_out: Counter[str]
     one_of_them: dict[str, str]
@@ -418,11 +424,14 @@ def expected_links(
     linked: Mapping[str, list[PublicTrain]],
     stops: Stops,
     window: Window,
+    whole_trains: bool,
 ) -> Links:
     """The links that a feed has to have."""
     left_out = LeftOut(window)
     trains = trains_of(extract, linked, associations)
     shown = within_a_midnight(possible(associations, trains, left_out), left_out, window)
+    if whole_trains:
+        return Links(shown, {}, left_out.counts, left_out.one_of_them)
     linker = Linker(stops)
     held: dict[tuple[str, int], list[Held]] = defaultdict(list)
     of_key: dict[tuple[str, int], Train] = {}
@@ -438,4 +447,4 @@ def expected_links(
         held[associated].append(Held(own_dates, call, False))
     for key, of_train in held.items():
         linker.add_cuts(key[0], of_key[key], of_train, window)
-    return Links(linker.dates, left_out.counts, left_out.one_of_them)
+    return Links(shown, linker.dates, left_out.counts, left_out.one_of_them)
