@@ -108,6 +108,8 @@ def check_look(counts: Counts, browser: Browser, base: str, address: str) -> Non
 def check_completion(counts: Counts, browser: Browser, base: str) -> None:
     """The search completes names, and of a journey those of stations alone."""
     opened(browser, base + "/?date=2026-06-05")
+    # a busy machine may not have heeded autofocus yet
+    browser.value('document.getElementById("q").focus()')
     browser.call("Input.insertText", text="hay")
     counts.same(
         "names are completed",
@@ -136,7 +138,7 @@ def check_keyboard(counts: Counts, browser: Browser, base: str, script: bool) ->
     name = "with" if script else "without"
     opened(browser, base + "/?date=2026-06-05", script=script)
     if script:
-        counts.same("the search is ready", "q", browser.value("document.activeElement.id"))
+        counts.same("the search is ready", "q", waited(browser, "document.activeElement.id", "q"))
     else:
         # without script Chromium heeds no autofocus
         browser.value('document.getElementById("q").focus()')
