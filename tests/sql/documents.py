@@ -1,7 +1,9 @@
 """The questions of docs/SQL.md in PostgreSQL."""
 from __future__ import annotations
 
+import os
 import re
+from pathlib import Path
 
 from gtfs.checks import TOP, Counts
 

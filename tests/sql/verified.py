@@ -5,6 +5,7 @@ import os
 import random
 import shutil
 import sqlite3
+from concurrent.futures import ThreadPoolExecutor
 
 from contextlib import closing
 from pathlib import Path

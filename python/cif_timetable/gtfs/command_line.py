@@ -42,8 +42,8 @@ Makes a GTFS feed of a CIF timetable extract, as it is published or as
 STATUSES = """\
 statuses:
   0  success; for --verify: the same
-  1  for --verify: a difference, which is named; else success, but stations have no coordinates, which GTFS requires:
-     --places-wanted lists them
+  1  for --verify: a difference, which is named; else success, but stations
+     have no coordinates, which GTFS requires: --places-wanted lists them
   2  a usage error
   3  a file is refused: the same file will be refused again
   4  a file can't be read or written, or memory ran out

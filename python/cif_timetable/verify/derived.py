@@ -2,7 +2,7 @@
 dates, and how many trains run."""
 from __future__ import annotations
 
-from collections import Counter
+from collections import Counter, defaultdict
 from collections.abc import Iterable, Iterator
 from datetime import date, timedelta
 from typing import NamedTuple
@@ -176,13 +176,18 @@ def compare_dates(database: Database, header: Header, midnights: int, days_run: 
 
 def compare_trains_per_day(database: Database, trains: Trains) -> None:
     """Compares how many trains run on each date."""
-    counts: Counter[tuple[date, Counted]] = Counter()
+    counts: defaultdict[Counted, Counter[int]] = defaultdict(Counter)
     for (days, counted), number in trains.items():
-        day, last = date.fromisoformat(days.first), date.fromisoformat(days.last)
-        while day <= last:
-            if days.days_run[day.weekday()] == "1":
-                counts[day, counted] += number
-            day += timedelta(days=1)
-    wanted = ((day, *counted, number) for (day, counted), number in counts.items())
+        first, last = (date.fromisoformat(day).toordinal() for day in (days.first, days.last))
+        of_counted = counts[counted]
+        for day in range(first, min(first + 7, last + 1)):
+            if days.days_run[date.fromordinal(day).weekday()] == "1":
+                for same_weekday in range(day, last + 1, 7):
+                    of_counted[same_weekday] += number
+    wanted = (
+        (date.fromordinal(day), *counted, number)
+        for counted, of_counted in counts.items()
+        for day, number in of_counted.items()
+    )
     columns = "date operator passenger as_required trains"
     compare_all(database, "trains_per_day", columns, wanted)

@@ -102,7 +102,7 @@ def whole_on_dates(
     whole = WholeTrains(shown, window)
     found: dict[str, OnDates] = {uid: dict(on_dates) for uid, on_dates in wanted.items()}
     known: dict[tuple[Call, ...], str] = {}
-    for node, train in whole.trains.items():
+    for node in whole.trains:
         uid, number = node
         day = 1 << number
         on_dates = found[uid]
