@@ -72,6 +72,7 @@ BAD_DATE_WORDS += (
 )
 BAD_UID_WORDS = (
     "C0012",
+    "1A94",
     "C001234",
     "",
     "C0012\t",

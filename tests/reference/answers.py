@@ -6,7 +6,7 @@ from datetime import date
 from typing import List, NamedTuple, Optional, Sequence, Set, Tuple, Union
 
 from . import published, tables, texts, verbose
-from .boards import board, board_table, place_of
+from .boards import board, board_table
 from .calendars import calendar
 from .dates import from_word
 from .explanation import explanation
@@ -15,6 +15,7 @@ from .faults import REFUSED, WORDS, Fault, of_input
 from .holidays import read_holidays
 from .json_rows import rows_of
 from .meaning import Meaning, all_clashes, clash_dates, first_difference
+from .places import place_of
 from .reasons import all_reasons, listed
 from .verbose import Input
 from .winners import winner_table

@@ -1,20 +1,16 @@
 """Boards: what leaves from a place on a date, and what arrives there, date by date and call by call."""
 from __future__ import annotations
 
-import re
 from datetime import date
 from typing import Collection, List, NamedTuple, Optional, Sequence, Set, Tuple
 
 from .dates import DAY
 from .extracts import Body
-from .faults import WORDS, Fault
 from .meaning import Meaning
 from .public import Call, public_calls
 from .tables import CALL, CALLS, EXTRA, cells, extra_of, lines_of, numbered
 
-WORD = re.compile(r"[!-~]{1,7}")
 NO = "1"
-SECONDS_OF_DAY = 86400
 
 OF_BOARD = ["date", "time", "train_date", "uid", "identity", "operator_code", "category", "status"]
 OF_BOARD += ["location", "platform", "call", "origin", "origin_name", "destination"]
@@ -32,13 +28,6 @@ class PublicCall(NamedTuple):
     departure: str
     set_down: str
     pick_up: str
-
-
-def place_of(word: Optional[str]) -> Optional[str]:
-    """The word of a place in capitals; of no word there is none."""
-    if word is not None and not WORD.fullmatch(word):
-        raise Fault("bad place", WORDS, word=word)
-    return None if word is None else re.sub("[a-z]", lambda small: small[0].upper(), word)
 
 
 def locations_of(meaning: Meaning, place: str) -> Set[str]:

@@ -62,12 +62,12 @@ module _ (h : Holidays) (drops : Bool) (p : PublishedParts) (days : List ℕ →
   is_day = let d = last_is_day p.header in omega arith
 
   -- a schedule of the train that applies counts
-  record IsOn (s : PublishedSchedule) : Type 0 where
-    applies : Applies (schedule_terms s.schedule) n
-    no_holiday : ¬ IsHolidayOf h s.code n
-    free : ¬ Contains (days k) n
+  pub record IsOn (s : PublishedSchedule) : Type 0 where
+    pub applies : Applies (schedule_terms s.schedule) n
+    pub no_holiday : ¬ IsHolidayOf h s.code n
+    pub free : ¬ Contains (days k) n
 
-  on-at : (j : ℕ) (s : PublishedSchedule) → slice_get p.schedules j ≡ Some s → s.schedule.uid ≡ k → applies j n → IsOn s
+  pub on-at : (j : ℕ) (s : PublishedSchedule) → slice_get p.schedules j ≡ Some s → s.schedule.uid ≡ k → applies j n → IsOn s
   on-at j s at uid a =
       let same : a.it ≡ s = same_Some a.it s (sym a.at ∙ at) in
       let goes : ¬ IsStopAmong h days s.schedule.uid s.code n =
@@ -80,7 +80,7 @@ module _ (h : Holidays) (drops : Bool) (p : PublishedParts) (days : List ℕ →
         free = λ has. goes (inr (subst (λ (u : List ℕ). Contains (days u) n) (sym uid) has));
       }
 
-  at-on : (j : ℕ) (s : PublishedSchedule) → slice_get p.schedules j ≡ Some s → s.schedule.uid ≡ k → IsOn s → applies j n
+  pub at-on : (j : ℕ) (s : PublishedSchedule) → slice_get p.schedules j ≡ Some s → s.schedule.uid ≡ k → IsOn s → applies j n
   at-on j s at uid on = record {
     it = s;
     at = at;
@@ -100,15 +100,15 @@ module _ (h : Holidays) (drops : Bool) (p : PublishedParts) (days : List ℕ →
   }
 
   -- what counts stands at a position
-  record StandsAt (r : Terms BodyLines) : Type 0 where
-    position : ℕ
-    schedule : PublishedSchedule
-    at : slice_get p.schedules position ≡ Some schedule
-    uid : schedule.schedule.uid ≡ k
-    terms : schedule_terms schedule.schedule ≡ r
-    no_holiday : ¬ IsHolidayOf h schedule.code n
+  pub record StandsAt (r : Terms BodyLines) : Type 0 where
+    pub position : ℕ
+    pub schedule : PublishedSchedule
+    pub at : slice_get p.schedules position ≡ Some schedule
+    pub uid : schedule.schedule.uid ≡ k
+    pub terms : schedule_terms schedule.schedule ≡ r
+    pub no_holiday : ¬ IsHolidayOf h schedule.code n
 
-  counted-at : (r : Terms BodyLines) → counted r → StandsAt r
+  pub counted-at : (r : Terms BodyLines) → counted r → StandsAt r
   counted-at r c =
       let (s, listed, is) = Contains-from_map (λ (t : PublishedSchedule). (t.schedule.uid, published_schedule_terms t)) p.schedules _ c.listed in
       let (j, at) = at-contains p.schedules s listed in record {

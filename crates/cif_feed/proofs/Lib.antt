@@ -43,6 +43,7 @@ pub mod FirstPublishedClash
 pub mod ToldWinners
 pub mod WrittenWinners
 pub mod WinnersRead
+pub mod WinnerRows
 pub mod RankedPositions
 pub mod PartDates
 pub mod MergedDates

@@ -42,6 +42,7 @@ pub mod Waived
 pub mod Words
 pub mod Winners
 pub mod WinnersAnswer
+pub mod WinnersDays
 pub mod WrittenExtracts
 pub mod WrittenOver
 pub mod WrittenPrepared

@@ -1,5 +1,10 @@
 //! Laws: which published extract and which update bytes spell, and what a prepared extract and an update say.
-ghost use Rattle.std.specs.Prelude.{◌≡◌, ◌↔◌, ◌≤◌, ◌++◌, ℕ, Bool, List, Option, None, Contains, false, length, IfErr, IfOk, Result};
+ghost use Rattle.std.specs.Prelude.{◌≡◌, ◌↔◌, ◌≤◌, ◌+◌, ◌++◌, ℕ, Bool, List, Option, None, Contains, IsTrue, false, length, IfErr, IfOk};
+ghost use Rattle.std.specs.Prelude.{Result};
+ghost use Rattle.cif_calendar.specs.Keys.{of_key as rows_of_train};
+ghost use Rattle.cif_extract.specs.Body.{BodyLines};
+ghost use Rattle.cif_weeks.specs.{Applies.Applies as RowApplies, Permanent.Permanent, Window.IsWithin, Window.window_from};
+ghost use Rattle.cif_feed.specs.{PublishedParts.published_schedules, Winners.AreWinners, WinnersDays.SaysWhatRuns};
 ghost use Rattle.cif_columns.specs.{Contents.contents_of, Field.columns, Source.Unread};
 ghost use Rattle.cif_extract.specs.declared.fault.Fault.{Fault};
 ghost use Rattle.cif_feed.specs.{FeedFault.IsFailure, FeedFault.IsFeedFault, FeedFault.IsReadAs, HolidayText.AreRead};
@@ -30,7 +35,7 @@ ghost use Rattle.cif_feed.specs.Changes.{transaction_of, untouched, of_key as re
 ghost use Rattle.cif_feed.specs.Parts.{AreParts, IsPart, Part, ended};
 ghost use Rattle.cif_extract.specs.{ExtractParts.ExtractParts, SpellsExtract.BytesSpell, SpellsExtract.BytesSpellWithin, Texts.FitsColumns};
 ghost use Rattle.cif_extract.specs.{Texts.extract_text};
-ghost use Rattle.cif_feed.specs.Published.{AppliesAsPublished, CountOn, IsStop, PublishedTerms};
+ghost use Rattle.cif_feed.specs.Published.{AppliesAsPublished, CountOn, IsClashDay, IsStop, PublishedTerms};
 ghost use Rattle.cif_feed.specs.UpdateLines.{SayTiplocs, SaysAssociation, SaysSchedule};
 ghost use Rattle.cif_feed.specs.Updated.{IsUpdateFault, IsUpdated, MayBeDone, published_association_key, published_schedule_key};
 ghost use Rattle.cif_records.specs.{Kind.kind_in, declared.record.Record.Record};
@@ -96,6 +101,22 @@ pub fn prepared_texts_say_what_was_published()
         (p : PublishedParts) (x : ExtractParts)
         → IsPreparedText h drops max bytes text dropped → BytesSpellPublished (codes_named h) max bytes p
         → BytesSpell text x → SayAsPublished h drops p x × AreDroppedIf drops h p dropped }
+{}
+
+/// On each date of the window on which a published schedule of a train applies, one row of the train's winners shows which
+/// schedule decides, and by it what runs; unless clashes are dropped and the date is one.
+pub fn winners_say_what_runs()
+    ensures some { (h : Holidays) (drops : Bool) (p : PublishedParts) (rows : List (List ℕ × Permanent ℕ))
+        → AreWinners h drops p rows → (train : List ℕ) (d : ℕ) → IsWithin (window_from p.header.first p.header.last) d
+        → ¬ (IsTrue drops × IsClashDay h (published_schedules p.schedules) p.header.first (p.header.last + 1) train d)
+        → (r : Terms BodyLines) → CountOn h (published_schedules p.schedules) train d r → Applies r d
+        → (row : Permanent ℕ) × rows_of_train rows train row × RowApplies row d }
+    ensures one { (h : Holidays) (drops : Bool) (p : PublishedParts) (rows : List (List ℕ × Permanent ℕ))
+        → AreWinners h drops p rows → (train : List ℕ) (d : ℕ) (row other : Permanent ℕ)
+        → rows_of_train rows train row → rows_of_train rows train other → RowApplies row d → RowApplies other d → row ≡ other }
+    ensures runs { (h : Holidays) (drops : Bool) (p : PublishedParts) (rows : List (List ℕ × Permanent ℕ))
+        → AreWinners h drops p rows → (train : List ℕ) (d : ℕ) → IsWithin (window_from p.header.first p.header.last) d
+        → (row : Permanent ℕ) → rows_of_train rows train row → RowApplies row d → SaysWhatRuns h p train d row.body }
 {}
 
 /// Which holidays don't reach the window of a published extract.

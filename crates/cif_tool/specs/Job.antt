@@ -1,6 +1,6 @@
 -- What the words of a call ask for.
 use Rattle.std.specs.Prelude.{Bool, IsSomeAnd, List, None, Option, Some, [], codes, count_by, false, if◌then◌else◌, map, option_to_list}
-use Rattle.std.specs.Prelude.{string_bytes, true, unwrap_or, ℕ, ⊤, ⊥, ◌++◌, ◌||◌, ◌∷◌, ◌≡◌, ◌≤◌}
+use Rattle.std.specs.Prelude.{string_bytes, true, unwrap_or, ℕ, ⊤, ◌++◌, ◌||◌, ◌∷◌, ◌≡◌, ◌≤◌}
 use Rattle.std.specs.Str.{bytes_eq}
 use Rattle.clap.specs.Words.{Row, Text, all_of, first_of}
 use Rattle.cif_canon.specs.declared.asked.Asked.{Asked}

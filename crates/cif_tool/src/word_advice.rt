@@ -25,6 +25,9 @@ pub(crate) fn advise_on_word(
                         "a space before or behind the other five belongs to it, in quotes",
                     );
                 }
+                if word.len() == 4 {
+                    message.line("cif table schedules lists UIDs and identities");
+                }
             }
         }
         JobFault::BadDate => {

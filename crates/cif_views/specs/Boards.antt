@@ -1,6 +1,6 @@
 -- Boards: what leaves from a place on a date, and what arrives there.
 use Rattle.std.specs.Prelude.{All, AllPairs, Bool, Contains, IsTrue, List, None, Option, Some, [], codes, drop, if◌then◌else◌, map, nat_le, not, option_map}
-use Rattle.std.specs.Prelude.{slice_get, slice_index_or, take, unwrap_or, ℕ, ◌%◌, ◌&&◌, ◌++◌, ◌+◌, ◌-◌, ◌/◌, ◌<◌, ◌↔◌, ◌∷◌, ◌≡◌}
+use Rattle.std.specs.Prelude.{slice_get, slice_index_or, take, unwrap_or, ℕ, ◌%◌, ◌++◌, ◌+◌, ◌/◌, ◌↔◌, ◌∷◌, ◌≡◌}
 use Rattle.std.specs.{Option.option_or, Prelude.true}
 use Rattle.std.specs.{Cmp.Lexicographic.pointwise, Cmp.Lexicographic.slice_cmp, List.find, List.flat_map, Ordering.nat_cmp}
 use Rattle.std.specs.{Ordering.ordering_then, Prelude.nat_eq, declared.cmp.Ordering.Ordering, declared.cmp.Ordering.TheVariants.Less}

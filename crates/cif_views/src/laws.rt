@@ -1,12 +1,13 @@
 //! Laws: what the marks of an explanation and the letters of a calendar say, and what tables say.
 ghost use Rattle.std.specs.Prelude.{◌≡◌, ◌≢◌, ◌↔◌, ◌<◌, ◌≤◌, ◌^◌, ℕ, Contains, List, [], length};
 ghost use Rattle.cif_calendar.specs.{Clash.IsClear, Keys.keyed, Keys.of_key, Runs.Runs, Terms.Terms};
-ghost use Rattle.cif_canon.specs.{Accepted.IsAccepted, Canon.CanonParts, Canon.IsCanonOf, Differences.AreDifferences, Differences.AreNone};
+ghost use Rattle.cif_canon.specs.{Accepted.IsAccepted, Accepted.IsClearExtract, Canon.CanonParts, Canon.IsCanonOf, Differences.AreDifferences, Differences.AreNone};
 ghost use Rattle.cif_canon.specs.{Differences.DifferencesParts, Lines.ScheduleLines, Meaning.SameMeaning};
 ghost use Rattle.cif_rows.specs.{Row.Value, declared.format.Format.Format, declared.format.Format.TheVariants.Text};
 ghost use Rattle.cif_canon.specs.declared.asked.Asked.{Asked};
 ghost use Rattle.cif_extract.specs.ExtractParts.{ExtractParts};
 ghost use Rattle.cif_weeks.specs.declared.form.Form.{Form};
+ghost use Rattle.cif_views.specs.{Boards.IsBoard, declared.board.Board.Board};
 ghost use Rattle.cif_views.specs.AllFields.{CallsHaveAll, DayRowsHaveAll, DifferenceRowsHaveAll};
 ghost use Rattle.cif_views.specs.AllFields.{ExplainedRowsHaveAll, TablesHaveColumns, TrainRowsHaveAll};
 ghost use Rattle.cif_views.specs.{DifferenceTable.difference_rows, PublicCalls.ArePublicCalls};
@@ -86,4 +87,10 @@ pub fn calendars_say_what_runs()
 /// The public calls that a table shows of a schedule are those by the definition of moments.
 pub fn public_calls_are_by_moments()
     ensures { (s : ℕ × ScheduleLines) → ArePublicCalls s (public_calls s) }
+{}
+
+/// Of clear extracts that say the same, such as an extract and its canonical one of any form, all boards are the same.
+pub fn boards_of_equal_meanings()
+    ensures { (x y : ExtractParts) (format : Format) (board : Board) (text : List ℕ) → SameMeaning x y
+        → IsClearExtract x → IsClearExtract y → IsBoard format x board text ↔ IsBoard format y board text }
 {}
