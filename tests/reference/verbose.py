@@ -12,7 +12,6 @@ from .extracts import COMMENT, NOTES, Extract, Record, contents_of
 from .faults import Fault, Reader, Refusal
 from .holidays import WIDTH
 from .layouts import Fields
-from .places import place_of
 from .published import count_clashing, count_cut, count_open_ends, transaction_of
 
 if TYPE_CHECKING:
@@ -213,26 +212,7 @@ def of_extracts(
     if job.uid and is_missing:
         known = has_schedule or any(job.uid in entry.key[:2] for entry in extracts[0].associations)
         said.append("there are records with this UID" if known else "no record has this UID")
-    if job.place is not None and len(lines) == (job.format == "tsv"):
-        places = [place_of(word) for word in (job.place, job.calling_at)]
-        said += [
-            f"no location has the code {place}"
-            for place in places
-            if is_unknown(extracts[0], place)
-        ]
     return said
-
-
-def is_unknown(extract: Extract, place: Optional[str]) -> bool:
-    """Whether no TI has the place as its TIPLOC or CRS code, and no train calls there."""
-    if place is None:
-        return False
-    columns = place.ljust(7)
-    lines = [line for one in extract.schedules if one.body for line in one.body.lines]
-    return not (
-        any(tiploc[:7] == columns or tiploc[51:54] == place for tiploc in extract.tiplocs)
-        or any(line[2:9] == columns for line in lines)
-    )
 
 
 def of_feed(one: Input, records: List[Record], more: str) -> List[str]:
@@ -416,11 +396,10 @@ def of_word(fault: Fault) -> List[str]:
     assert fault.word is not None
     if fault.name != "bad UID":
         return []
-    length = len(fault.word.encode(errors="surrogateescape"))
     return {
         4: ["cif table schedules lists UIDs and identities"],
         5: ["a space before or behind the other five belongs to it, in quotes"],
-    }.get(length, [])
+    }.get(len(fault.word.encode(errors="surrogateescape")), [])
 
 
 def of_fault(job: Job, inputs: List[Input], fault: Fault) -> List[str]:

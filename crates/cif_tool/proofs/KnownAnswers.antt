@@ -9,9 +9,10 @@ use Rattle.cif_tool.proofs.Names.{IsWeekCalendarFault, List, MAX_LINES, Ok, Opti
 use Rattle.cif_tool.proofs.Names.{ap, canon-fault, canonical_text, comparison_line, differences_in, extract_parts, false, inl}
 use Rattle.cif_tool.proofs.Names.{inr, is-normalised, known_so, lines_of, listed_status, outcome_of, reader_of, reading_extract, refl, sym}
 use Rattle.cif_tool.proofs.Names.{table_text, true, true≢false, ℕ, ⊎_elim, ◌↔◌, ◌≡◌, ◌⊎◌}
-use Rattle.cif_tool.specs.{Answer.IsCalendarIn, Answer.clashes_in, declared.job.ClashesJob.ClashesJob}
+use Rattle.cif_tool.specs.{Answer.IsBoardAnswer, Answer.IsCalendarIn, Answer.clashes_in, declared.job.BoardJob.BoardJob}
+use Rattle.cif_tool.specs.declared.job.ClashesJob.{ClashesJob}
 use Rattle.cif_rows.specs.declared.format.Format.{Format}
-use Rattle.cif_views.specs.{Explanation.IsExplanationFault, Listing.IsDayListing, Listing.IsTrainListing}
+use Rattle.cif_views.specs.{Boards.IsBoard, Explanation.IsExplanationFault, Listing.IsDayListing, Listing.IsTrainListing}
 use Rattle.cif_extract.{proofs.ReadCalls.both-go-on, proofs.ReadCalls.both-hand-on, specs.declared.extract.Extract.Extract}
 use Rattle.cif_extract.specs.declared.fault.Fault.TheVariants as fault
 use Rattle.cif_canon.{specs.Pair.IsNarrowedPair, specs.Pair.SpellPair, specs.declared.comparison.Comparison.Comparison}
@@ -49,6 +50,12 @@ module _ (start : Option (List ℕ)) where
         IfSome start (λ bytes. IsDayAnswer job bytes text 0)
     day-answer job text view =
         known_so start (λ bytes. BytesSpellWithin MAX_LINES bytes x) (λ bytes. IsDayAnswer job bytes text 0)
+        (λ bytes s. record { extract = x; spelled = s; view = view; status_is = refl }) spelled
+
+    pub board-answer : (job : BoardJob) (text : List ℕ) → IsBoard job.format x job.board text →
+        IfSome start (λ bytes. IsBoardAnswer job bytes text 0)
+    board-answer job text view =
+        known_so start (λ bytes. BytesSpellWithin MAX_LINES bytes x) (λ bytes. IsBoardAnswer job bytes text 0)
         (λ bytes s. record { extract = x; spelled = s; view = view; status_is = refl }) spelled
 
     pub explain-answer : (job : ExplainJob) (text : List ℕ) → IsExplanation job.format x job.uid job.day text →

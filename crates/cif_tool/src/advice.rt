@@ -5,10 +5,9 @@ use crate::devices::{ExtractInput, OutputState};
 use crate::job::Job;
 use crate::line_advice::Reader;
 use crate::message::{Message, Verbosity};
-use cif_columns::{Sink, Uid, columns_at};
+use cif_columns::{Sink, Uid};
 use cif_extract::{Clash, Extract, Fault};
 use cif_rows::Format;
-use cif_views::Place;
 use std::alloc::Global;
 use std::io;
 use std::io::Stderr;
@@ -65,12 +64,6 @@ impl DoneJob<'_, '_> {
                 }
                 Job::Calendar(job) if !has_schedule(extract, &job.uid) => {
                     add_records_of(extract, &job.uid, message);
-                }
-                Job::Board(job) if !self.written.has_row(job.format) => {
-                    add_unknown(extract, &job.board.place, message);
-                    if let Some(goal) = &job.board.calling_at {
-                        add_unknown(extract, goal, message);
-                    }
                 }
                 _ => {}
             }
@@ -170,39 +163,4 @@ impl OutputState {
 /// The system's text for the error of this number, if it gave one.
 pub(crate) fn reason_of(alloc: Global, failure: Option<i32>) -> Option<String> {
     io::Error::from_raw_os_error(failure?).to_string(alloc).ok()
-}
-
-/// Adds that no location has the code, if the place is known to no TI and no call.
-fn add_unknown(extract: &Extract, place: &Place, message: &mut Message) {
-    if !is_listed(extract, place) && !is_called_at(extract, place) {
-        let code = str::from_utf8(&place.tiploc).unwrap_or("").trim_end();
-        message.line(format_args!("no location has the code {code}"));
-    }
-}
-
-/// Whether there is a TI with this TIPLOC or CRS code.
-fn is_listed(extract: &Extract, place: &Place) -> bool {
-    for tiploc in extract.tiplocs.as_slice() {
-        let line = tiploc.write();
-        if columns_at(&line, 3) == place.tiploc || place.crs == Some(columns_at(&line, 54)) {
-            return true;
-        }
-    }
-    false
-}
-
-/// Whether a train calls at the TIPLOC, or passes it.
-fn is_called_at(extract: &Extract, place: &Place) -> bool {
-    for schedule in extract.schedules.as_slice() {
-        if let Some(body) = &schedule.body {
-            let mut lines = body.further_lines();
-            while !lines.is_empty() {
-                if columns_at(&lines.first(), 3) == place.tiploc {
-                    return true;
-                }
-                lines = lines.rest();
-            }
-        }
-    }
-    false
 }

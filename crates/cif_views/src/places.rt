@@ -14,9 +14,9 @@ use std::marker::Model;
 #[derive(Clone, Copy)]
 pub struct Place {
     /// The columns of the TIPLOC that the word spells.
-    pub tiploc: [u8; 7],
+    pub(crate) tiploc: [u8; 7],
     /// The CRS code that it spells, if it has three bytes.
-    pub crs: Option<[u8; 3]>,
+    pub(crate) crs: Option<[u8; 3]>,
 }
 
 /// These columns, with A to Z for a to z.
