@@ -243,6 +243,24 @@ def laid_out(job: Job, day: Optional[date], extracts: List[Extract]) -> Tuple[Li
         with of_input(at):
             meanings.append(Meaning(extract))
     meaning, *others = meanings
+    if job.command in OF_BOARDS:
+        return of_board(job, day, meaning, as_table), 0
+    return of_meanings(job, day, [meaning, *others], as_table)
+
+
+def of_board(job: Job, day: Optional[date], meaning: Meaning, as_table: bool) -> List[str]:
+    """What leaves from a place, or arrives there."""
+    place, calling_at = place_of(job.place), place_of(job.calling_at)
+    assert day is not None and place is not None
+    arrivals = job.command == "arrivals"
+    return (board_table if as_table else board)(meaning, arrivals, day, place, calling_at)
+
+
+def of_meanings(
+    job: Job, day: Optional[date], meanings: List[Meaning], as_table: bool
+) -> Tuple[List[str], int]:
+    """The same of the commands that say what extracts mean."""
+    meaning, *others = meanings
     form = job.form or "2"
     if job.command == "normalise":
         return texts.canonical(meaning, form)[0], 0
@@ -254,11 +272,6 @@ def laid_out(job: Job, day: Optional[date], extracts: List[Extract]) -> Tuple[Li
     if job.command == "day":
         assert day is not None
         return (tables.day_table if as_table else texts.day_view)(meaning, day, job.stops), 0
-    if job.command in OF_BOARDS:
-        place, calling_at = place_of(job.place), place_of(job.calling_at)
-        assert day is not None and place is not None
-        arrivals = job.command == "arrivals"
-        return (board_table if as_table else board)(meaning, arrivals, day, place, calling_at), 0
     if job.command == "train":
         assert job.uid is not None
         return (tables.train_table if as_table else texts.train_view)(

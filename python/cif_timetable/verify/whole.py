@@ -7,8 +7,8 @@ from typing import NamedTuple
 
 from .links import DAY, Call, Node, Shown, Train
 from .riders import NEVER
-from .trains import About, OnDates, Stops
-from .zipped import Window
+from .trains import OnDates, Stops
+from .zipped import About, Window
 
 
 class Joint(NamedTuple):
