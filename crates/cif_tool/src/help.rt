@@ -240,12 +240,12 @@ pub(crate) const DEPARTURES: &str = "\
 Lists what leaves from a place on a date
 Prints a line for each call at which riders may get on, by the time of day:
   TIME PLATFORM OPERATOR IDENTITY UID DESTINATION
-PLACE is a TIPLOC or a CRS code, in capitals or not. Times and the date are those
-of the clock: a train of the evening before that calls after midnight is there.
+PLACE is a TIPLOC or a CRS code, in capitals or not. Times and the date are by
+the clock: a train of the evening before that calls after midnight is there.
 With --calling-at only trains are listed on which riders may get off at that
 place later, with the time there after the first. --format tsv prints a table
-instead, with field names in the first line, in which the date on which the train
-runs stands too, and --format json an object a line.
+instead, with field names in the first line and also the date on which the
+train runs, and --format json an object a line.
 
 Examples:
   cif departures EUS 2026-06-05 extract.cif
@@ -261,8 +261,8 @@ pub(crate) const ARRIVALS: &str = "\
 Lists what arrives at a place on a date
 Prints a line for each call at which riders may get off, by the time of day:
   TIME PLATFORM OPERATOR IDENTITY UID ORIGIN
-PLACE is a TIPLOC or a CRS code, in capitals or not. Times, the date and --format
-are as in `cif departures`.
+PLACE is a TIPLOC or a CRS code, in capitals or not. Times, the date and
+--format are as in `cif departures`.
 
 Example:
   cif arrivals EUS 2026-06-05 extract.cif
