@@ -11,7 +11,7 @@ function __cif_places
             set awaited no
         else if test $ended = no; and test "$word" = --
             set ended yes
-        else if test $ended = no; and contains -- $word --from --to --form --format --holidays
+        else if test $ended = no; and contains -- $word --from --to --form --format --holidays --calling-at
             set awaited yes
         else if test $ended = yes; or not string match -q -- '-?*' $word
             printf '%s\n' $word
