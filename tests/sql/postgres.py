@@ -208,7 +208,7 @@ def check_privileges(counts: Counts, maker: Maker, special: Path) -> None:
     )
     before = rows_of(query)
     # the schema, 24 tables and views, two columns, and two privileges by default
-    counts.same("privileges before", 29, len(before))
+    counts.same("privileges before", 30, len(before))
     counts.same("a script where a role reads", (0, "", ""), ended(load(maker, special)))
     counts.same("privileges", before, rows_of(query))
     found = psql("-A", "-t", "-c", "SET ROLE reader; SELECT count(*) FROM cif.runs")
