@@ -207,7 +207,7 @@ def check_privileges(counts: Counts, maker: Maker, special: Path) -> None:
         'ALTER DEFAULT PRIVILEGES FOR ROLE "odd %s" IN SCHEMA cif GRANT USAGE ON TYPES TO PUBLIC',
     )
     before = rows_of(query)
-    # the schema, 24 tables and views, two columns, and two privileges by default
+    # the schema, 25 tables and views, two columns, and two privileges by default
     counts.same("privileges before", 30, len(before))
     counts.same("a script where a role reads", (0, "", ""), ended(load(maker, special)))
     counts.same("privileges", before, rows_of(query))
