@@ -21,8 +21,8 @@ pub mod writing;
 
 pub use asked::{Asked, check_within, narrow, read_pair};
 pub use canon_lines::CanonListing;
-pub use canonical_schedules::{CanonSchedules, canon_schedules};
 pub use canonical_form::{Canon, CanonRecord, CanonSchedule, Counts, write_counts};
+pub use canonical_schedules::{CanonSchedules, canon_schedules};
 pub use comparison::{Comparison, compare, write_comparison};
 pub use differing::differences;
 pub use listed_differences::{Differences, ListedRecord, Side, Sided};
