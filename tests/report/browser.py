@@ -90,6 +90,32 @@ CONTRASTS = """
   return [...found];
 })()
 """
+# Shapes of charts whose contrast with the page is below what WCAG wants of graphics.
+SHAPES = """
+(() => {
+  const light = (colour) => {
+    const parts = colour.match(/[0-9.]+/g).map(Number).slice(0, 3).map((part) => part / 255)
+      .map((part) => (part <= 0.04045 ? part / 12.92 : ((part + 0.055) / 1.055) ** 2.4));
+    return 0.2126 * parts[0] + 0.7152 * parts[1] + 0.0722 * parts[2];
+  };
+  const paper = light(getComputedStyle(document.body).backgroundColor);
+  const found = new Set();
+  for (const shape of document.querySelectorAll(".plot path")) {
+    const style = getComputedStyle(shape);
+    const own = light(style.stroke === "none" ? style.fill : style.stroke);
+    const contrast = (Math.max(own, paper) + 0.05) / (Math.min(own, paper) + 0.05);
+    if (contrast < 3) {
+      found.add(shape.getAttribute("class") + " " + contrast.toFixed(2));
+    }
+  }
+  return [...found];
+})()
+"""
+# Numbers of the grid that cover a chart.
+COVERING = """
+[...document.querySelectorAll(".grid i")].filter((number) => number.getBoundingClientRect().right
+  > number.closest(".plot").querySelector("svg").getBoundingClientRect().left).map((number) => number.textContent)
+"""
 OPEN_ALL = 'for (const each of document.querySelectorAll("details")) { each.open = true; }'
 SHOWN = '[...document.querySelectorAll(".train")].filter((train) => train.getClientRects().length).map((train) => train.dataset.uid)'
 
@@ -273,7 +299,7 @@ def check_quiet(counts: Counts, name: str, browser: Browser, page: Path) -> None
 
 def check_looks(counts: Counts, browser: Browser, page: Path) -> None:
     """Nothing overlaps, goes beyond the window or is hard to read, in a wide and a narrow one."""
-    for width, scheme in (WIDE, "light"), (NARROW, "dark"):
+    for width, scheme in (WIDE, "light"), (WIDE, "dark"), (NARROW, "light"), (NARROW, "dark"):
         name = f"at {width} columns, {scheme}"
         browser.open(page, width, scheme)
         counts.same(f"{name}, width", width, browser.value("innerWidth"))
@@ -281,8 +307,54 @@ def check_looks(counts: Counts, browser: Browser, page: Path) -> None:
         counts.same(f"{name}, overlaps", [], browser.texts(OVERLAPS)[:5])
         counts.same(f"{name}, beyond the window", 0, browser.value(BEYOND))
         counts.same(f"{name}, contrast", [], browser.texts(CONTRASTS)[:5])
+        counts.same(f"{name}, contrast of charts", [], browser.texts(SHAPES)[:5])
         counts.test(f"{name}, texts", browser.count("document.body.innerText.length") > 1000)
         check_quiet(counts, name, browser, page)
+
+
+def bottom(browser: Browser, selector: str) -> int:
+    """How far down the page an element ends."""
+    return browser.count(
+        f"Math.ceil(document.querySelector({json.dumps(selector)}).getBoundingClientRect().bottom + scrollY)"
+    )
+
+
+def check_first(counts: Counts, browser: Browser, page: Path, made: Page) -> None:
+    """What stands out is seen first: in words and as a chart in a wide window, in words and at the
+    top of the chart in a narrow one."""
+    [peak, *_] = made.peaks
+    for width in WIDE, NARROW:
+        browser.open(page, width)
+        text = browser.value('document.querySelector("main, .lead").textContent')
+        counts.test(
+            f"at {width} columns, the first words", str(text).startswith(peak.sentence), text
+        )
+        counts.test(f"at {width} columns, words", bottom(browser, ".lead") < 900)
+        counts.same(f"at {width} columns, numbers over a chart", [], browser.texts(COVERING))
+        end = bottom(browser, "figure .difference")
+        counts.test(f"at {width} columns, the chart", end < 900, end)
+    browser.open(page, WIDE)
+    link = 'document.querySelector(".peak .links a")'
+    browser.value(f"{link}.click()")
+    heading = browser.value("document.querySelector(`${location.hash} h3`).textContent")
+    counts.test(
+        "the trains of what stands out", str(heading).startswith("1 Cancelled on "), heading
+    )
+    on_date = trains_on(made, peak.highest)
+    browser.value('document.querySelector(".peak .links a[data-date]").click()')
+    shown = browser.texts(SHOWN)
+    counts.same("all trains of the date that stands out", sorted(on_date), sorted(shown))
+    hidden = 'document.querySelectorAll(".groups:not([hidden])").length'
+    kinds = [{kind for group in part for kind in group.kinds} for part in made.groups_of_peaks]
+    some = {
+        kind for of_part in kinds for kind in of_part if any(kind not in each for each in kinds)
+    }
+    counts.test("kinds without a train of what stands out", some, kinds)
+    for kind in sorted(some):
+        browser.value('document.getElementById("filter").reset()')
+        set_field(browser, "kind", kind)
+        want = sum(kind in of_part for of_part in kinds)
+        counts.same(f"headings with trains of kind {kind}", want, browser.value(hidden))
 
 
 def set_field(browser: Browser, name: str, value: str) -> None:
@@ -311,9 +383,11 @@ def check_one_filter(
         f"filter by {name}, some and not all", 0 < len(wanted) < len(made.trains()), len(wanted)
     )
     text = browser.value('document.getElementById("filter").elements.shown.value')
+    assert made.data is not None
+    changed = f"{made.data['changed']:,}"
     counts.same(
         f"filter by {name}, in words",
-        f"{len(wanted)} of {len(made.trains())} trains on this page",
+        f"{len(wanted)} of {len(made.trains())} trains on this page; {changed} trains differ in all",
         text,
     )
     groups = browser.value(
@@ -425,6 +499,11 @@ def check_without_script(counts: Counts, browser: Browser, page: Path, made: Pag
         True,
         browser.value('document.getElementById("filter").hidden'),
     )
+    links = '[...document.querySelectorAll(".peak a")].filter((link) => link.getClientRects().length).map((link) => link.hash)'
+    want = [f"#trains-{peak.number}" for peak in made.peaks]
+    counts.same("without script, links of what stands out", want, browser.texts(links))
+    there = "[...document.querySelectorAll('.peak a')].every((link) => document.querySelector(link.hash))"
+    counts.test("without script, where they lead", browser.value(there))
 
 
 def check_print(counts: Counts, browser: Browser, page: Path, made: Page) -> None:
@@ -470,6 +549,7 @@ def check(counts: Counts, page: Path) -> bool:
     try:
         browser.attach()
         check_looks(counts, browser, page)
+        check_first(counts, browser, page, made)
         check_filter(counts, browser, page, made)
         check_keyboard(counts, browser, page)
         check_without_script(counts, browser, page, made)

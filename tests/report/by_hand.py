@@ -676,6 +676,64 @@ def check_most(counts: Counts, maker: Maker) -> None:
         counts.same(f"--most {most}, the CSV file", 3, len(page.rows))
 
 
+def check_stands_out(counts: Counts, maker: Maker) -> None:
+    """Thirty trains that are cancelled on a weekend, and one more on its Sunday, begin the page, before
+    fifteen whose platforms change on all dates."""
+    every_day = [
+        replace(
+            OTHER,
+            uid=f"E{number:05}",
+            calls=moved(OTHER.calls, number),
+            operator="SN" if number < 20 else "GX",
+        )
+        for number in range(46)
+    ]
+    changed = [
+        replace(each, calls=tuple(replace(call, platform="9") for call in each.calls))
+        for each in every_day[31:]
+    ]
+    weekend = [cancelled(each, june(13), june(14)) for each in every_day[:30]]
+    old = write(maker, "weekend-old.cif", extract(every_day))
+    weekend.append(cancelled(every_day[30], june(14)))
+    new = write(maker, "weekend-new.cif", extract([*every_day[:31], *weekend, *changed]))
+    page = maker.page("--most", "10", old, new)
+    sentence = "On Sat 13 and Sun 14 June 31 trains are cancelled, 20 of them run by Southern."
+    [peak] = page.peaks
+    counts.same("a weekend, the sentence", sentence, peak.sentence)
+    counts.test("a weekend, the lead", page.lead.startswith(f"{sentence} 46 trains are"), page.lead)
+    text = "The most on one date are 31, on Sun 14 June."
+    counts.same("a weekend, in numbers", text, peak.numbers)
+    kinds = {"cancelled": 31, "platforms": 15}
+    counts.same("a weekend, trains by kind", kinds, peak.trains)
+    counts.same(
+        "a weekend, operators", "Southern 20 and Gatwick Express 11", peak.operators["cancelled"]
+    )
+    counts.same("a weekend, journeys", {"Alpha to Delta": (31, "11:40 to 12:10")}, peak.journeys)
+    of_peak, others = page.groups_of_peaks
+    shown = [(len(group.trains), group.others) for part in (of_peak, others) for group in part]
+    counts.same("a weekend, trains on the page and others", [(5, 25), (5, 10)], shown)
+    # 47 trains run every day, and two from Monday to Friday
+    usual = ["339", "339", "as many trains"]
+    weeks = [usual, ["339", "278", "18% fewer trains"], usual, usual]
+    counts.same("a weekend, week by week", weeks, page.weeks)
+    page = maker.page(old, write(maker, "no-weekend.cif", extract([*every_day[:31], *changed])))
+    counts.same("the same change on all dates, what stands out", [], page.peaks)
+    counts.test(
+        "the same change on all dates, the lead", page.lead.startswith("15 trains are different")
+    )
+    friday = [cancelled(each, june(12)) for each in every_day[:12]]
+    page = maker.page(old, write(maker, "friday.cif", extract([*every_day, *friday])))
+    [peak] = page.peaks
+    counts.same(
+        "a Friday, the sentence",
+        "On Fri 12 June 12 trains are cancelled, all run by Southern.",
+        peak.sentence,
+    )
+    text = "In all 37 trains run on that date, 12 fewer than before."
+    counts.same("a Friday, in numbers", text, peak.numbers)
+    counts.same("a Friday, what is usual", {"cancelled": 0}, peak.usual)
+
+
 def check_example(counts: Counts, maker: Maker) -> None:
     """What README shows."""
     folder = TOP / "examples"
@@ -705,4 +763,5 @@ def check(counts: Counts, maker: Maker) -> None:
     check_years(counts, maker)
     check_order(counts, maker)
     check_most(counts, maker)
+    check_stands_out(counts, maker)
     check_example(counts, maker)

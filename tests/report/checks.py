@@ -1,15 +1,21 @@
 """A page against what `cif` says, number by number and date by date."""
 from __future__ import annotations
 
+import re
 import subprocess
 import sys
+from collections import Counter
+from datetime import date, timedelta
+from decimal import ROUND_HALF_EVEN, Decimal
+from html import unescape
 from pathlib import Path
-from typing import Callable, List, Mapping, Optional, TypeVar
+from typing import Callable, Dict, List, Mapping, Optional, Tuple, TypeVar
 
 from gtfs.checks import PACKAGES, PROGRAMS, Counts, Word
 
-from .definition import Expected
-from .page import Page, bars, heights
+from .definition import Expected, Peak
+from .page import Group, Page, bars, heights, number_of
+from .page import Peak as PagePeak
 
 # The numbers of the page that aren't of trains.
 OTHERS = "associations", "tiplocs"
@@ -159,29 +165,50 @@ def check_days(counts: Counts, name: str, expected: Expected, page: Page) -> Non
         for bodies in extract.bodies.values()
         for body in bodies.values()
     }
-    for code in sorted(codes):
-        series = [
-            [extract.trains_on(day, code) for day in expected.dates]
-            for extract in (expected.old, expected.new)
-        ]
+    of_operators = {code: series_of(expected, code) for code in sorted(codes)}
+    # the charts of operators have one scale
+    reach = reach_of([each for series in of_operators.values() for each in differences_of(*series)])
+    for code, series in of_operators.items():
         shown = code in page.charts
         counts.same(f"{name}, a chart of {code}", series[0] != series[1], shown)
         if shown:
-            check_chart(counts, f"{name}, {code}", page.charts[code], *series)
-    series = [
-        [extract.trains_on(day) for day in expected.dates]
+            check_chart(counts, f"{name}, {code}", page.charts[code], *series, reach)
+    series = series_of(expected)
+    reach = reach_of(differences_of(*series))
+    check_chart(counts, f"{name}, all trains", page.charts["all"], *series, reach)
+    check_weeks(counts, name, expected, page, *series)
+
+
+Series = Tuple[List[int], List[int]]
+
+
+def series_of(expected: Expected, code: Optional[str] = None) -> Series:
+    """How many trains run on each date, before and after: all, or those of an operator."""
+    before, after = (
+        [extract.trains_on(day, code) for day in expected.dates]
         for extract in (expected.old, expected.new)
-    ]
-    check_chart(counts, f"{name}, all trains", page.charts["all"], *series)
+    )
+    return before, after
 
 
-def check_chart(counts: Counts, name: str, chart: str, before: List[int], after: List[int]) -> None:
+def differences_of(before: List[int], after: List[int]) -> List[int]:
+    return [new - old for old, new in zip(before, after)]
+
+
+def reach_of(differences: List[int]) -> int:
+    """What the whole height stands for: the most trains more and the most fewer."""
+    return max(0, *differences) + max(0, *(-each for each in differences))
+
+
+def check_chart(
+    counts: Counts, name: str, chart: str, before: List[int], after: List[int], reach: int
+) -> None:
     most = max(*before, *after, 1)
     for part, numbers in ("before", before), ("after", after):
         want = [1000 - round(1000 * number / most) for number in numbers]
         counts.same(f"{name}, chart {part}", want, heights(chart, part, len(numbers)))
-    differences = [new - old for old, new in zip(before, after)]
-    scale = 1000 / max(max(0, *differences) + max(0, *(-each for each in differences)), 1)
+    differences = differences_of(before, after)
+    scale = 1000 / max(reach, 1)
     for part, sign in ("more", 1), ("less", -1):
         wanted = {
             number: round(each * scale)
@@ -189,6 +216,137 @@ def check_chart(counts: Counts, name: str, chart: str, before: List[int], after:
             if each * sign > 0
         }
         counts.same(f"{name}, bars of {part}", wanted, bars(chart, part))
+
+
+def percent(before: int, after: int) -> str:
+    """As the page says it, to one decimal below ten."""
+    if before == after:
+        return "as many trains"
+    if not before or not after:
+        return "no trains any more" if before else "no trains before"
+    part = Decimal(100 * abs(after - before)) / before
+    tenths = part.quantize(Decimal("0.1"), ROUND_HALF_EVEN)
+    text = f"{tenths}" if tenths < 10 else f"{part.quantize(Decimal(1), ROUND_HALF_EVEN):,}"
+    return f"{'<0.1' if tenths == 0 else text}% {'more' if after > before else 'fewer'} trains"
+
+
+def check_weeks(
+    counts: Counts, name: str, expected: Expected, page: Page, before: List[int], after: List[int]
+) -> None:
+    """The table of weeks, from Monday to Sunday, and the per cent of all trains and of operators."""
+    weeks: Dict[date, List[int]] = {}
+    for day, *numbers in zip(expected.dates, before, after):
+        week = weeks.setdefault(day - timedelta(days=day.weekday()), [0, 0])
+        weeks[day - timedelta(days=day.weekday())] = [sum(each) for each in zip(week, numbers)]
+    want = [[f"{old:,}", f"{new:,}", percent(old, new)] for old, new in weeks.values()]
+    counts.same(f"{name}, the weeks", want, [list(map(unescape, each)) for each in page.weeks])
+    caption = percent(sum(before), sum(after))
+    text = unescape(page.charts["all"])
+    if sum(before) != sum(after):
+        counts.test(f"{name}, all trains in per cent", f"> <span>{caption}<" in text, caption)
+
+
+# How much a kind of change counts.
+WEIGHTS = {
+    "cancelled": 16,
+    "runs": 16,
+    "places": 8,
+    "times": 8,
+    "platforms": 4,
+    "numbers": 2,
+    "data": 1,
+}
+
+
+def rank_of(expected: Expected, group: Group) -> int:
+    """How much the trains of a group change: date by date, by the kind that counts most."""
+    uid = group.trains[0].uid
+    kinds = {kind: days for (each, kind), days in expected.changes.items() if each == uid}
+    of_train = sum(
+        max(WEIGHTS[kind] for kind, days in kinds.items() if day in days)
+        for day in expected.trains[uid]
+    )
+    return of_train * (len(group.trains) + group.others)
+
+
+def check_peaks(counts: Counts, name: str, expected: Expected, page: Page) -> None:
+    """What stands out, in numbers and words, and its trains, which stand before the others."""
+    want = expected.peaks(WEIGHTS)
+    got = [(peak.kind, peak.highest) for peak in page.peaks]
+    counts.same(f"{name}, what stands out", [(peak.kind, peak.highest) for peak in want], got)
+    marks = re.findall(r'class="at level-of-\d" style="left:([\d.]+)%"><b>(\d+)</b>', page.markup)
+    places = {
+        round(100 * (expected.dates.index(peak.highest) + 0.5) / len(expected.dates), 2): number
+        for number, peak in enumerate(want, start=1)
+    }
+    counts.same(f"{name}, marks", places, {float(left): int(number) for left, number in marks})
+    for number, (peak, shown) in enumerate(zip(want, page.peaks)):
+        name_of = f"{name}, peak {number + 1}"
+        check_peak(counts, name_of, expected, peak, shown)
+        for group in page.groups_of_peaks[number]:
+            days = group.kinds.get(peak.kind, set())
+            inside = 2 * len(days & peak.dates) >= len(days) > 0
+            counts.test(f"{name_of}, the group of {group.trains[0].uid}", inside, group.words)
+    for group in page.groups_of_peaks[-1]:
+        of_peak = [
+            peak.kind
+            for peak in want
+            for days in [group.kinds.get(peak.kind, set())]
+            if days and 2 * len(days & peak.dates) >= len(days)
+        ]
+        counts.same(f"{name}, peaks of the group of {group.trains[0].uid}", [], of_peak)
+    if want:
+        counts.test(f"{name}, the first sentence", page.lead.startswith(page.peaks[0].sentence))
+
+
+def check_peak(counts: Counts, name: str, expected: Expected, peak: Peak, shown: PagePeak) -> None:
+    """The numbers of trains by kind, what is usual, operators and journeys."""
+    trains = {kind: found for kind in WEIGHTS if (found := expected.with_kind(kind, peak.dates))}
+    counts.same(f"{name}, trains", {kind: len(uids) for kind, uids in trains.items()}, shown.trains)
+    usual = {}
+    if len(peak.dates) == 1:
+        usual = {kind: expected.usual(kind, peak.highest) for kind in trains}
+    counts.same(f"{name}, what is usual", usual, shown.usual)
+    count = len(trains[peak.kind])
+    text = f" {count:,} train" + ("s " if count > 1 else " ")
+    counts.test(f"{name}, in words", text in shown.sentence, shown.sentence)
+    operators = Counter(
+        expected.body_on(uid, peak).schedule["operator_code"] for uid in trains[peak.kind]
+    )
+    for code, of_operator in operators.items():
+        if 2 * of_operator > count > of_operator:
+            text = f", {of_operator:,} of them run by "
+            counts.test(f"{name}, {code} in words", text in shown.sentence, shown.sentence)
+    most = [each for _, each in operators.most_common(3)]
+    numbers = [
+        number_of(each) for each in re.findall(r" ([\d,]+)(?=,| and|$)", shown.operators[peak.kind])
+    ]
+    counts.same(f"{name}, operators", most, numbers[:3])
+    journeys: Dict[Tuple[str, str], List[str]] = {}
+    for uid in trains[peak.kind]:
+        calls = expected.body_on(uid, peak).calls
+        leaves = calls[0]["public_departure"].replace("0000", "") or calls[0]["departure"][:4]
+        ends = calls[0]["location"], calls[-1]["location"]
+        journeys.setdefault(ends, []).append(f"{leaves[:2]}:{leaves[2:]}")
+    wanted = sorted(
+        (len(leaves), min(leaves) + (f" to {max(leaves)}" if len(leaves) > 1 else ""))
+        for leaves in journeys.values()
+    )
+    got = sorted(shown.journeys.values())
+    if len(wanted) > 6:
+        counts.same(f"{name}, all journeys", count, sum(number for number, _ in got))
+        wanted, got = wanted[-5:], sorted(each for each in got if each[1])[-5:]
+    counts.same(f"{name}, journeys", wanted, got)
+    if len(peak.dates) == 1:
+        before, after = (side.trains_on(peak.highest) for side in (expected.old, expected.new))
+        word = "more" if after > before else "fewer"
+        text = (
+            f"{abs(after - before):,} {word} than before"
+            if after != before
+            else "as many as before"
+        )
+        counts.test(f"{name}, trains of the date", text in shown.numbers, shown.numbers)
+        counts.test(f"{name}, trains after", f" {after:,} train" in shown.numbers, shown.numbers)
 
 
 def check_trains(counts: Counts, name: str, expected: Expected, page: Page) -> None:
@@ -210,8 +368,9 @@ def check_trains(counts: Counts, name: str, expected: Expected, page: Page) -> N
             }
             name_of = f"{name}, weeks of {group.trains[0].uid}"
             same_values(counts, name_of, wanted, group.marks(first, last))
-    dates = [len(set().union(*group.kinds.values())) for group in page.groups]
-    counts.same(f"{name}, most dates first", sorted(dates, reverse=True), dates)
+    for groups in page.groups_of_peaks:
+        ranks = [rank_of(expected, group) for group in groups]
+        counts.same(f"{name}, the largest change first", sorted(ranks, reverse=True), ranks)
     left_out = len(expected.trains) - len(uids)
     rest = f"{left_out:,} changed train" if left_out else "changed trains are on this page"
     counts.test(f"{name}, trains that aren't on the page", rest in page.text, rest)
@@ -289,6 +448,7 @@ def check_trains_and_days(counts: Counts, name: str, expected: Expected, page: P
     check_expected(counts, name, expected)
     check_summary(counts, name, expected, page)
     check_days(counts, name, expected, page)
+    check_peaks(counts, name, expected, page)
     check_trains(counts, name, expected, page)
     check_operators_and_places(counts, name, expected, page)
 

@@ -6,7 +6,7 @@ from collections import Counter, defaultdict
 from datetime import date, timedelta
 from functools import cached_property
 from pathlib import Path
-from typing import DefaultDict, Dict, Iterator, List, Optional, Set, Tuple
+from typing import DefaultDict, Dict, Iterator, List, NamedTuple, Optional, Set, Tuple
 
 from gtfs.checks import Source
 from gtfs.definition import Row, table_rows
@@ -151,6 +151,14 @@ def kinds_of(old: Body, new: Body) -> Set[str]:
 # ---- what differs between two extracts
 
 
+class Peak(NamedTuple):
+    """Dates that stand out, the kind for which they do, and the date that does most."""
+
+    dates: Set[date]
+    kind: str
+    highest: date
+
+
 class Expected:
     """All changes on the dates that both extracts have, or on those from one to another."""
 
@@ -232,6 +240,76 @@ class Expected:
         found = Counter(kind for each in kinds.values() for kind in each if kind != "data")
         found["data"] = sum(each == {"data"} for each in kinds.values())
         return found
+
+    @cached_property
+    def counted(self) -> Dict[str, Dict[str, Set[date]]]:
+        """By kind and train, the dates: other data where nothing else of the train differs."""
+        of_train = defaultdict(set)
+        for uid, kind in self.changes:
+            of_train[uid].add(kind)
+        found: DefaultDict[str, Dict[str, Set[date]]] = defaultdict(dict)
+        for (uid, kind), days in self.changes.items():
+            if kind != "data" or of_train[uid] == {"data"}:
+                found[kind][uid] = days
+        return found
+
+    def with_kind(self, kind: str, days: Set[date]) -> List[str]:
+        """The trains with a change of a kind on some of these dates."""
+        return [uid for uid, found in self.counted[kind].items() if found & days]
+
+    def usual(self, kind: str, day: date) -> int:
+        """The least number of trains that isn't exceeded on three quarters of the dates of this
+        weekday; of all dates, where these are less than three weeks."""
+        alike = [
+            other
+            for other in self.dates
+            if len(self.dates) < 21 or other.weekday() == day.weekday()
+        ]
+        if len(self.dates) == 1:
+            return 0
+        counts = [len(self.with_kind(kind, {other})) for other in alike]
+        enough = 3 * len(counts) // 4
+        return min(most for most in counts if sum(count <= most for count in counts) >= enough)
+
+    def excess(self, kind: str, day: date) -> int:
+        """By how many trains a date stands out: by half of what is usual or more, and by ten, or by a
+        tenth of the trains that differ."""
+        usual = self.usual(kind, day)
+        more = len(self.with_kind(kind, {day})) - usual
+        least = 10 if len(self.trains) > 90 else -(-len(self.trains) // 10)
+        return more if more >= least and 2 * more >= usual and more > 0 else 0
+
+    def peaks(self, weights: Dict[str, int]) -> List[Peak]:
+        """What stands out, the most first."""
+        heights: Dict[date, Tuple[int, str]] = {}
+        for day in self.dates:
+            of_kind = [(weights[kind] * self.excess(kind, day), kind) for kind in weights]
+            if any(height for height, _ in of_kind):
+                heights[day] = sum(height for height, _ in of_kind), max(of_kind)[1]
+        highest = max((height for height, _ in heights.values()), default=0)
+        found: List[List[date]] = []
+        for day in (day for day, (height, _) in heights.items() if 4 * height >= highest):
+            before = found[-1][-1] if found else date.min
+            if (day - before).days <= 3 and heights[day][1] == heights[before][1]:
+                found[-1].append(day)
+            else:
+                found.append([day])
+        found.sort(key=lambda days: -max(heights[day][0] for day in days))
+        return [self.peak(days, heights[days[0]][1]) for days in found[:3]]
+
+    def peak(self, days: List[date], kind: str) -> Peak:
+        return Peak(set(days), kind, max(days, key=lambda day: len(self.with_kind(kind, {day}))))
+
+    def body_on(self, uid: str, peak: Peak) -> Body:
+        """What a train does on the dates that stand out, or what it did there."""
+        days = sorted(self.changes[uid, peak.kind] & peak.dates)
+        sides = (self.new, self.old)
+        return next(
+            side.bodies[uid][day]
+            for side in sides
+            for day in days
+            if day in side.bodies.get(uid, {})
+        )
 
     def on(self, day: date) -> int:
         """How many trains differ on a date."""

@@ -41,6 +41,7 @@ class Data(TypedDict):
     """What the script of a page has."""
 
     firstDate: str
+    changed: int
     places: List[List[str]]
 
 
@@ -82,6 +83,36 @@ def numbers_in(ranges: List[str]) -> Iterator[int]:
         yield from range(int(first), int(last or first) + 1)
 
 
+class Peak:
+    """Dates that stand out: the kind, the date with the most, the sentence, how many trains differ by
+    kind, how many usually, of which operators, and how many make each journey."""
+
+    def __init__(self, markup: str) -> None:
+        [(number, kind, day)] = re.findall(
+            r'id="peak-(\d+)" data-kind="(\w+)" data-date="([\d-]+)"', markup
+        )
+        self.number, self.kind, self.highest = int(number), kind, date.fromisoformat(day)
+        [heading] = re.findall(r"<h3><b[^>]*>\d+</b> (.*?)</h3>", markup)
+        [numbers] = re.findall(r"</h3>\n<p>(.*?)</p>", markup)
+        self.sentence, self.numbers = unescape(heading), unescape(numbers)
+        kinds, journeys = re.findall(r"(?s)<tbody>(.*?)</tbody>", markup)
+        self.trains: Dict[str, int] = {}
+        self.usual: Dict[str, int] = {}
+        self.operators: Dict[str, str] = {}
+        for kind, cells in re.findall(r'<tr data-kind="(\w+)"><th.*?</th>(.*?)</tr>', kinds):
+            *counts, operators = re.findall(r"<td[^>]*>(.*?)</td>", cells)
+            self.trains[kind], *usual = map(number_of, counts)
+            self.usual |= {kind: each for each in usual}
+            self.operators[kind] = unescape(operators)
+        self.journeys = {
+            text_of(name): (number_of(count), unescape(times))
+            for name, count, times in re.findall(
+                r'<tr><t[hd][^>]*>(.*?)</t[hd]><td class="number">(.*?)</td><td>(.*?)</td></tr>',
+                journeys,
+            )
+        }
+
+
 class Train:
     """A train on the page."""
 
@@ -110,12 +141,15 @@ class Page:
     def __init__(self, path: Path) -> None:
         self.markup = path.read_text(encoding="utf-8")
         self.text = text_of(re.sub(r"(?s)<(style|script).*?</\1>", "", self.markup))
+        self.lead = text_of(re.findall(r'<p class="lead">(.*?)</p>', self.markup)[0])
         found = re.findall(
             r'data-figure="(\w+)" class="\w+"><dt>(.*?)</dt><dd>(.*?)</dd>', self.markup
         )
         self.figures = {kind: number_of(number) for kind, _, number in found}
         self.labels = {kind: unescape(label) for kind, label, _ in found}
         rows = re.findall(r'(?s)<tr data-date="([\d-]+)">(.*?)</tr>', self.markup)
+        weeks = re.findall(r'(?s)<tr class="week">(.*?)</tr>', self.markup)
+        self.weeks = [re.findall(r"<td[^>]*>(.*?)</td>", cells) for cells in weeks]
         self.numbers = {
             date.fromisoformat(day): [
                 number_of(cell) for cell in re.findall(r"<td[^>]*>(.*?)</td>", cells)
@@ -135,10 +169,19 @@ class Page:
         )
         self.data: Optional[Data] = json.loads(data[0]) if data else None
         first = date.fromisoformat(self.data["firstDate"]) if self.data else date.min
-        self.groups = [
-            Group(each, first)
-            for each in re.findall(r'(?s)<article class="group".*?</article>', self.markup)
+        peaks = re.findall(r'(?s)<article class="peak".*?</article>', self.markup)
+        self.peaks = [Peak(each) for each in peaks]
+        # the groups of each peak, and then the others
+        parts = re.split(r'<div class="groups"(?: id="trains-\d+")?>', self.markup)
+        parts = [*parts[1:], ""][: len(peaks) + 1] if peaks else parts
+        self.groups_of_peaks = [
+            [
+                Group(each, first)
+                for each in re.findall(r'(?s)<article class="group".*?</article>', part)
+            ]
+            for part in parts
         ]
+        self.groups = [group for part in self.groups_of_peaks for group in part]
         self.associations = re.findall(
             r'<tr data-base="(.*?)" data-associated="(.*?)">(.*?)</tr>', self.markup
         )

@@ -2,13 +2,13 @@
 stay legible on a narrow screen."""
 from __future__ import annotations
 
-from collections.abc import Iterable, Iterator, Sequence
+from collections.abc import Iterable, Iterator, Mapping, Sequence
 from datetime import date
 from itertools import groupby
 from typing import NamedTuple
 
 from .days import MONTH_NAMES, Calendar
-from .report import number_word, signed
+from .report import signed
 from .templates import Markup, fill, joined
 
 # Charts are so high in their own unit.
@@ -18,6 +18,9 @@ MOST_WITH_GAPS = 62
 # Where labels keep off the edges, in per cent of a large or a small chart.
 NEAR_EDGE = 10
 NEAR_EDGE_OF_SMALL = 35
+NEAR_EDGE_OF_WEEKS = 35
+# Marks as near as this, in per cent, stand above one another.
+NEAR_MARK = 8
 # So many ticks an axis has at most, and so many where the screen is narrow.
 MOST_TICKS = 14
 FEW_TICKS = 5
@@ -32,6 +35,28 @@ class Series(NamedTuple):
     @property
     def differences(self) -> list[int]:
         return [after - before for before, after in zip(self.before, self.after)]
+
+
+class Reach(NamedTuple):
+    """How many trains more, and how many fewer, there are at most: charts with the same reach have
+    the same scale of differences."""
+
+    more: int
+    fewer: int
+
+    @property
+    def scale(self) -> float:
+        return HEIGHT / max(self.more + self.fewer, 1)
+
+    @property
+    def zero(self) -> int:
+        """The height of the line of zero, from the top."""
+        return round(self.more * self.scale) if self.more + self.fewer else HEIGHT // 2
+
+
+def reach_of(all_series: Iterable[Series]) -> Reach:
+    differences = [0, *(each for series in all_series for each in series.differences)]
+    return Reach(max(differences), -min(differences))
 
 
 # ---- paths
@@ -61,14 +86,14 @@ def area(values: Sequence[int], most: int) -> str:
     return f"{step_line(values, most)}V{HEIGHT}H0Z"
 
 
-def bars(differences: Sequence[int], sign: int, zero: int, scale: float) -> str:
+def bars(differences: Sequence[int], sign: int, reach: Reach) -> str:
     """The differences of one sign, as bars from the line of zero."""
     gap = 0.2 if len(differences) <= MOST_WITH_GAPS else 0
     parts = []
     for number, difference in enumerate(differences):
         if difference * sign > 0:
-            top = zero - round(difference * scale)
-            parts.append(f"M{number + gap / 2:g},{zero}V{top}h{1 - gap:g}V{zero}z")
+            top = reach.zero - round(difference * reach.scale)
+            parts.append(f"M{number + gap / 2:g},{reach.zero}V{top}h{1 - gap:g}V{reach.zero}z")
     return "".join(parts)
 
 
@@ -144,6 +169,20 @@ def axis(days: Sequence[date], near_edge: float) -> Markup:
     return Markup("".join(parts))
 
 
+def marks_at(marks: Mapping[int, str], count: int) -> Markup:
+    """Marks at dates, by their numbers. One near another stands above it."""
+    parts: list[Markup] = []
+    level, before = 0, -100.0
+    for number, text in sorted(marks.items()):
+        left = place_of(number + 0.5, count)
+        level = level + 1 if left - before < NEAR_MARK else 0
+        before = left
+        parts.append(
+            Markup(f'<span class="at level-of-{level}" style="left:{left:g}%"><b>{text}</b></span>')
+        )
+    return joined(parts)
+
+
 def extremes(series: Series, calendar: Calendar) -> list[tuple[int, str]]:
     """The first date with the most trains more, and the first with the most fewer, each with its
     label."""
@@ -157,21 +196,44 @@ def extremes(series: Series, calendar: Calendar) -> list[tuple[int, str]]:
     return found
 
 
-def summary(series: Series, calendar: Calendar) -> str:
+def percent(before: int, after: int) -> str:
+    """By how much there are more or fewer, such as `3.1%`."""
+    part = 100 * abs(after - before) / before
+    if part < 0.05:
+        return "<0.1%"
+    return f"{part:,.{1 if part < 9.95 else 0}f}%"
+
+
+def share(before: int, after: int) -> str:
+    """How many trains more or fewer there are, such as `3.1% fewer trains`."""
+    if before == after:
+        return "as many trains"
+    if not before or not after:
+        return "no trains any more" if before else "no trains before"
+    return f"{percent(before, after)} {'more' if after > before else 'fewer'} trains"
+
+
+def summary(series: Series) -> str:
     """The difference in words."""
-    dates = sum(1 for difference in series.differences if difference)
-    if not dates:
-        return "as many trains on every date"
-    return f"different on {number_word(dates, 'date')}"
+    before, after = sum(series.before), sum(series.after)
+    if before == after:
+        on_dates = "every date" if not any(series.differences) else "all dates together"
+        return f"as many trains on {on_dates}"
+    return share(before, after)
 
 
-def chart(code: str, name: str, series: Series, calendar: Calendar, small: bool) -> Markup:
-    """A chart of the trains of an operator, or of all."""
+def chart(
+    code: str,
+    name: str,
+    series: Series,
+    calendar: Calendar,
+    reach: Reach,
+    small: bool,
+    **more: Markup,
+) -> Markup:
+    """A chart of the trains of an operator, or of all. Those with one reach have one scale."""
     count = len(series.before)
     most = max(*series.before, *series.after, 1)
-    up, down = max(0, *series.differences), max(0, *(-value for value in series.differences))
-    scale = HEIGHT / max(up + down, 1)
-    zero = round(up * scale) if up + down else HEIGHT // 2
     near_edge = NEAR_EDGE_OF_SMALL if small else NEAR_EDGE
     labels = [
         label(text, place_of(number + 0.5, count), text.startswith("+"), near_edge)
@@ -182,14 +244,95 @@ def chart(code: str, name: str, series: Series, calendar: Calendar, small: bool)
         size="small" if small else "large",
         operator=code,
         name=name,
-        summary=summary(series, calendar),
+        summary=summary(series),
         lines=grid(most, small),
         width=count,
         before=area(series.before, most),
         after=step_line(series.after, most),
-        zero=zero,
-        more=bars(series.differences, 1, zero, scale),
-        less=bars(series.differences, -1, zero, scale),
+        zero=reach.zero,
+        more=bars(series.differences, 1, reach),
+        less=bars(series.differences, -1, reach),
         labels=joined(labels),
         ticks=axis(calendar.window.days, near_edge),
+        **{"marks": Markup(), "weeks": Markup(), **more},
+    )
+
+
+def small_chart(code: str, name: str, series: Series, calendar: Calendar, reach: Reach) -> Markup:
+    """One of an operator."""
+    return chart(code, name, series, calendar, reach, small=True)
+
+
+def large_chart(series: Series, calendar: Calendar, marks: Mapping[int, str]) -> Markup:
+    """The one of all trains, with marks at dates, and the weeks below."""
+    return chart(
+        "all",
+        "All trains",
+        series,
+        calendar,
+        reach_of([series]),
+        small=False,
+        marks=marks_at(marks, len(series.before)),
+        weeks=weekly(weeks_of(series, calendar.window.days), calendar),
+    )
+
+
+# ---- weeks
+
+
+class Week(NamedTuple):
+    """The trains of a week's dates together, before and after: from the first date to the last, by
+    their numbers."""
+
+    first: int
+    last: int
+    before: int
+    after: int
+
+
+def weeks_of(series: Series, days: Sequence[date]) -> list[Week]:
+    """The weeks from Monday to Sunday. The first and the last may lack dates."""
+    starts = [number for number, day in enumerate(days) if not number or not day.weekday()]
+    ends = [*starts[1:], len(days)]
+    return [
+        Week(start, end - 1, sum(series.before[start:end]), sum(series.after[start:end]))
+        for start, end in zip(starts, ends)
+    ]
+
+
+def bars_of_weeks(weeks: Sequence[Week], sign: int, reach: Reach) -> str:
+    """As `bars`, each as wide as its week."""
+    parts = []
+    for week in weeks:
+        difference = week.after - week.before
+        if difference * sign > 0:
+            top = reach.zero - round(difference * reach.scale)
+            left, width = week.first + 0.2, week.last - week.first + 0.6
+            parts.append(f"M{left:g},{reach.zero}V{top}h{width:g}V{reach.zero}z")
+    return "".join(parts)
+
+
+def weekly(weeks: Sequence[Week], calendar: Calendar) -> Markup:
+    """The differences week by week, which weekdays don't hide. Nothing of a single week."""
+    if len(weeks) < 2:
+        return Markup()
+    series = Series([week.before for week in weeks], [week.after for week in weeks])
+    reach, days = reach_of([series]), calendar.window.days
+    labels = []
+    for wanted, difference in (1, max(series.differences)), (-1, min(series.differences)):
+        if difference * wanted > 0:
+            week = weeks[series.differences.index(difference)]
+            when = calendar.period(days[week.first], days[week.last])
+            sign = "+" if difference > 0 else "−"
+            by = f"{sign}{percent(week.before, week.after)}" if week.before else signed(difference)
+            text = f"{by}, {when}"
+            left = place_of((week.first + week.last + 1) / 2, len(days))
+            labels.append(label(text, left, difference > 0, NEAR_EDGE_OF_WEEKS))
+    return fill(
+        "weeks_of_chart",
+        width=len(days),
+        zero=reach.zero,
+        more=bars_of_weeks(weeks, 1, reach),
+        less=bars_of_weeks(weeks, -1, reach),
+        labels=joined(labels),
     )

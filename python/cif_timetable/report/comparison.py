@@ -294,31 +294,37 @@ def compare(pair: Pair, names: Names, bodies: Bodies, progress: Progress) -> Com
 
 
 class Numbers(NamedTuple):
-    """How many trains have changes: of each kind, and on each date; and of the trains that run on
-    dates when they didn't, or no longer, how many are new or gone."""
+    """How many trains have changes: of each kind, on each date, and of each kind on each date; and
+    of the trains that run on dates when they didn't, or no longer, how many are new or gone."""
 
     of_kind: dict[str, int]
     of_date: list[int]
+    of_kind_on_date: dict[str, list[int]]
     new: int
     gone: int
 
 
-def counted_kinds(train: Train) -> list[str]:
-    """The kinds under which a train is counted: other data only if there is nothing else."""
-    kinds = list(train.kinds())
-    return [kind for kind in kinds if kind != DATA or len(kinds) == 1]
+def counted_kinds(train: Train) -> dict[str, Dates]:
+    """The kinds under which a train is counted, each with its dates: other data only if there is
+    nothing else."""
+    kinds = train.kinds()
+    return {kind: dates for kind, dates in kinds.items() if kind != DATA or len(kinds) == 1}
 
 
 def numbers_of(comparison: Comparison) -> Numbers:
     of_kind = dict.fromkeys(KINDS, 0)
-    dates = DateCounts()
+    of_date = DateCounts()
+    of_kind_on_date = {kind: DateCounts() for kind in KINDS}
     new = gone = 0
     for train in comparison.trains:
-        dates.add(train.dates)
-        for kind in counted_kinds(train):
+        of_date.add(train.dates)
+        kinds = counted_kinds(train)
+        for kind, dates in kinds.items():
             of_kind[kind] += 1
+            of_kind_on_date[kind].add(dates)
         uid = train.uid.encode()
-        kinds = train.kinds()
         new += RUNS in kinds and uid not in comparison.old.found
         gone += CANCELLED in kinds and uid not in comparison.new.found
-    return Numbers(of_kind, dates.counts(len(comparison.window.days)), new, gone)
+    count = len(comparison.window.days)
+    by_kind = {kind: found.counts(count) for kind, found in of_kind_on_date.items()}
+    return Numbers(of_kind, of_date.counts(count), by_kind, new, gone)

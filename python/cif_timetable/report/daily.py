@@ -4,7 +4,7 @@ from __future__ import annotations
 from collections.abc import Iterator, Sequence
 from datetime import date, timedelta
 
-from .charts import Series, chart
+from .charts import Series, large_chart, reach_of, share, small_chart, weeks_of
 from .days import MONTH_NAMES
 from .report import Report, day_counts, number_word, signed
 from .templates import Markup, fill, joined, lines
@@ -50,18 +50,19 @@ def operator_charts(report: Report) -> Markup:
     left_out: list[str] = []
     size = 0
     amounts = {code: amount_of(series) for code, series in all_series.items()}
+    reach = reach_of(all_series.values())
     for code in sorted(all_series, key=lambda code: -amounts[code]):
         name = report.names.operator(code)
         if not amounts[code]:
             same.append(name)
             continue
-        made = chart(code, name, all_series[code], report.calendar, small=True)
+        made = small_chart(code, name, all_series[code], report.calendar, reach)
         size += len(made)
         if size > MOST_BYTES:
             left_out.append(name)
         else:
             shown.append(made)
-    notes = []
+    notes = ["The differences of all operators have the same scale."] if len(shown) > 1 else []
     if left_out:
         notes.append(f"Without a chart here: {', '.join(left_out)}.")
     if same:
@@ -83,22 +84,40 @@ def number_row(report: Report, number: int, total: Series) -> Markup:
     )
 
 
-def days_section(report: Report) -> Markup:
-    total = total_of(report)
-    count = len(report.comparison.window.days)
-    rows = [number_row(report, number, total) for number in range(min(count, MOST_DATES))]
-    note = Markup(
-        'How many trains run <span class="key-before">before</span> and '
-        '<span class="key-after">after</span>, and below the difference.'
+def week_rows(report: Report, total: Series) -> Markup:
+    days = report.comparison.window.days
+    return lines(
+        fill(
+            "week",
+            week=report.calendar.period(days[week.first], days[week.last]),
+            before=f"{week.before:,}",
+            after=f"{week.after:,}",
+            share=share(week.before, week.after),
+        )
+        for week in weeks_of(total, days[:MOST_DATES])
     )
-    if count > MOST_DATES:
-        note = joined((note, f" The table has the first {MOST_DATES:,} dates."))
+
+
+def chart_section(report: Report) -> Markup:
+    """The chart of all trains, on which what stands out is marked."""
+    marks = {peak.highest: str(at) for at, peak in enumerate(report.peaks, start=1)}
+    note = "How many trains run before and after, and below the difference by date and by week."
+    if marks:
+        note += " Numbers mark what stands out."
+    return fill("days", note=note, whole=large_chart(total_of(report), report.calendar, marks))
+
+
+def operators_section(report: Report) -> Markup:
+    """The charts of operators, and the numbers behind all charts."""
+    total, count = total_of(report), len(report.comparison.window.days)
+    rows = [number_row(report, number, total) for number in range(min(count, MOST_DATES))]
+    note = f"The tables have the first {MOST_DATES:,} dates." if count > MOST_DATES else ""
     return fill(
-        "days",
-        note=note,
-        whole=chart("all", "All trains", total, report.calendar, small=False),
+        "numbers",
         operators=operator_charts(report),
+        note=note,
         rows=lines(rows),
+        weeks=week_rows(report, total),
     )
 
 

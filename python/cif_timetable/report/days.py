@@ -69,6 +69,8 @@ class Calendar:
 
     def period(self, first: date, last: date) -> str:
         """Such as `1 to 12 June`."""
+        if first == last:
+            return self.day_month(last)
         if (first.year, first.month) == (last.year, last.month):
             return f"{first.day} to {self.day_month(last)}"
         return f"{self.day_month(first)} to {self.day_month(last)}"

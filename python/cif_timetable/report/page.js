@@ -6,8 +6,9 @@
   if (!trains.length) {
     return;
   }
-  const { places, firstDate } = JSON.parse(document.getElementById("data").textContent);
+  const { places, firstDate, changed } = JSON.parse(document.getElementById("data").textContent);
   const groups = Array.from(document.querySelectorAll(".group"));
+  const parts = Array.from(document.querySelectorAll(".groups"));
   const field = form.elements;
 
   // Which places a text may mean: a CRS code or a TIPLOC, or else a part of a name.
@@ -56,8 +57,12 @@
       }
       group.hidden = !any;
     }
+    for (const part of parts) {
+      part.hidden = part.querySelector(".group") && !part.querySelector(".group:not([hidden])");
+    }
     const count = trains.filter((train) => !train.hidden).length;
-    field.shown.value = `${count} of ${trains.length} trains on this page`;
+    const others = changed > trains.length ? `; ${changed.toLocaleString("en-GB")} trains differ in all` : "";
+    field.shown.value = `${count} of ${trains.length} trains on this page${others}`;
   }
 
   for (const name of new Set(places.map((place) => place[0]))) {
@@ -74,8 +79,9 @@
       details.open = open;
     }
   });
-  // A date of the calendar sets the filter.
-  for (const link of document.querySelectorAll("#when a")) {
+  // A date that is chosen sets the filter.
+  for (const link of document.querySelectorAll("a[data-date]")) {
+    link.hidden = false;
     link.addEventListener("click", () => {
       field.date.value = link.dataset.date;
       show();

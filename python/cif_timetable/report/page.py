@@ -2,7 +2,8 @@
 from __future__ import annotations
 
 from .. import __version__  # pylint: disable=cyclic-import
-from .daily import calendar_section, days_section
+from .daily import calendar_section, chart_section, operators_section
+from .highlights import highlights_section
 from .others import associations_section, places_section
 from .report import Report
 from .summary import figures, files, is_same, lead, title_of, warning
@@ -16,12 +17,15 @@ RESERVE = 50_000
 
 
 def page_of(report: Report, title: str | None, most: int) -> Markup:
-    head = [] if is_same(report) else [days_section(report), calendar_section(report)]
+    first, more = [], []
+    if not is_same(report):
+        first = [chart_section(report), highlights_section(report)]
+        more = [operators_section(report), calendar_section(report)]
     others = [associations_section(report), places_section(report)]
     css, script = file_text("page.css"), file_text("page.js")
     title = title if title is not None else title_of(report)
     # the title stands in two places
-    used = size_of([*head, *others, css, script, *[escaped(title)] * 2])
+    used = size_of([*first, *more, *others, css, script, *[escaped(title)] * 2])
     trains, data = trains_section(report, most, MOST_BYTES - RESERVE - used)
     return fill(
         "page",
@@ -29,9 +33,10 @@ def page_of(report: Report, title: str | None, most: int) -> Markup:
         title=title,
         lead=lead(report),
         warning=warning(report),
+        first=joined(first, "\n"),
         figures=figures(report),
         files=files(report),
-        sections=joined([*head, trains, *others], "\n"),
+        sections=joined([*more, trains, *others], "\n"),
         css=Markup(css),
         data=data,
         script=Markup(script),

@@ -1,16 +1,20 @@
 """What the parts of the page are made of."""
 from __future__ import annotations
 
-from typing import NamedTuple
+from dataclasses import dataclass
+from functools import cached_property
 
-from .comparison import Comparison, Numbers
+from .comparison import Comparison, Numbers, Train
 from .days import Calendar
 from .differences import Bodies
+from .groups import all_groups
 from .pair import Pair
+from .peaks import Peak, peaks_of
 from .words import Names
 
 
-class Report(NamedTuple):
+@dataclass(frozen=True)
+class Report:
     """Two extracts, their changes, and the names of places and operators."""
 
     pair: Pair
@@ -20,6 +24,17 @@ class Report(NamedTuple):
     names: Names
     bodies: Bodies
     csv_name: str
+
+    @cached_property
+    def peaks(self) -> list[Peak]:
+        """The dates that stand out."""
+        found = self.comparison
+        return peaks_of(self.numbers.of_kind_on_date, found.window, len(found.trains))
+
+    @cached_property
+    def groups(self) -> list[list[Train]]:
+        """The trains with the same changes, those that have changed most first."""
+        return all_groups(self.comparison.trains)
 
 
 def number_word(count: int, one: str, more: str = "") -> str:

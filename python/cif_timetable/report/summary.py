@@ -5,6 +5,7 @@ import os
 from datetime import date, datetime
 
 from .days import MONTH_NAMES
+from .highlights import sentence
 from .pair import Side
 from .report import Report, number_word
 from .schedules import Schedules
@@ -40,7 +41,7 @@ def is_same(report: Report) -> bool:
 
 
 def lead(report: Report) -> str:
-    """What has changed, in a sentence."""
+    """What has changed, in a few sentences. The first says what stands out most."""
     found = report.comparison
     count = len(found.window.days)
     dates = f"the {count:,} dates compared" if count > 1 else "the one date compared"
@@ -51,10 +52,11 @@ def lead(report: Report) -> str:
     differing = sum(1 for trains in report.numbers.of_date if trains)
     verb = "is" if len(found.trains) == 1 else "are"
     trains = number_word(len(found.trains), "train")
+    first = f"{sentence(report, report.peaks[0])} " if report.peaks else ""
     on = f"on {differing:,} of {dates}"
     if differing == count:
         on = f"on all {count:,} dates compared" if count > 1 else f"on {dates}"
-    return f"{trains} {verb} different, {on}. {in_all(found.old.trains, found.new.trains)}"
+    return f"{first}{trains} {verb} different, {on}. {in_all(found.old.trains, found.new.trains)}"
 
 
 def in_all(before: int, after: int) -> str:

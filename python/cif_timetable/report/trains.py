@@ -320,15 +320,31 @@ class TrainsPart:
         return fill("more", text=text) if others else Markup()
 
     def groups(self) -> Markup:
-        """As many groups as there is room for. A very large train leaves its room to others."""
-        made = []
-        for group in groups_of(self.report.comparison.trains, self.most):
+        """As many groups as there is room for, those of each peak under its heading. A very large
+        train leaves its room to others."""
+        peaks = self.report.peaks
+        made: dict[int | None, list[Markup]] = {at: [] for at in (*range(len(peaks)), None)}
+        for group in groups_of(self.report.groups, peaks, self.most):
             added = self.group(group)
             if added is not None:
-                made.append(added)
+                made[group.peak].append(added)
             elif self.left < LEAST_ROOM:
                 break
-        return lines(made)
+        if not peaks:
+            return lines(made[None])
+        return lines(
+            self.of_peak(at, groups) for at, groups in made.items() if at is not None or groups
+        )
+
+    def of_peak(self, at: int | None, groups: Sequence[Markup]) -> Markup:
+        """The groups of a peak under its heading, or the others."""
+        if at is None:
+            return fill("other_groups", groups=lines(groups))
+        peak = self.report.peaks[at]
+        title = f"{KIND_NAMES[peak.kind]} {self.report.calendar.words(peak.dates)}"
+        none = f"These trains aren’t on this page; {self.report.csv_name} has them."
+        shown = lines(groups) if groups else fill("no_groups", text=none)
+        return fill("groups_of_peak", number=at + 1, title=title, groups=shown)
 
     def operator_name(self, code: str) -> str:
         return "No operator" if code == NO_OPERATOR else self.report.names.operator(code)
@@ -350,12 +366,14 @@ class TrainsPart:
     def data(self) -> Markup:
         """What the script reads."""
         first = for_script(self.report.comparison.window.days[0].isoformat())
-        return fill("data", first=Markup(first), places=Markup(",\n".join(self.places.rows)))
+        changed = len(self.report.comparison.trains)
+        places = Markup(",\n".join(self.places.rows))
+        return fill("data", first=Markup(first), changed=changed, places=places)
 
 
 def note_of(report: Report) -> str:
     return (
-        "Those with changes on the most dates come first, and trains with the same change on the same dates stand together. In a week "
+        "Those that change most come first, and trains with the same change on the same dates stand together. In a week "
         "+ is a date on which a train runs and didn’t, × one on which it no longer runs, and • one on which it is different. "
         "Of calls, 10/04 is a time of passing, and marked cells differ."
     )

@@ -1,0 +1,195 @@
+"""The part of the page that says what stands out, in words."""
+from __future__ import annotations
+
+from collections import Counter
+from collections.abc import Sequence
+
+from ..days import Dates, count_of
+from .comparison import Train, counted_kinds
+from .daily import total_of
+from .days import DAY_NAMES, listed
+from .peaks import Peak, usual_counts
+from .report import Report, number_word
+from .templates import Markup, fill, lines
+from .trains import KIND_NAMES, change_words
+from .words import CANCELLED, DATA, KINDS, NUMBERS, PLACES, PLATFORMS, RUNS, TIMES
+
+# So many operators and so many journeys are listed of what stands out, and so many other changes.
+MOST_OPERATORS = 3
+MOST_JOURNEYS = 6
+MOST_CHANGES = 5
+
+# What one train does, and what several do.
+VERBS = {
+    RUNS: ("runs that didn’t before", "run that didn’t before"),
+    CANCELLED: ("is cancelled", "are cancelled"),
+    TIMES: ("has other times", "have other times"),
+    PLACES: ("has other calls or places", "have other calls or places"),
+    PLATFORMS: ("has other platforms", "have other platforms"),
+    NUMBERS: ("is renumbered", "are renumbered"),
+    DATA: ("has other data", "have other data"),
+}
+
+
+# ---- the trains of some dates
+
+
+def by_kind(trains: Sequence[Train], dates: Dates) -> dict[str, list[Train]]:
+    """The trains that differ on some of these dates, by the kinds of their changes there."""
+    found: dict[str, list[Train]] = {kind: [] for kind in KINDS}
+    for train in trains:
+        for kind, of_kind in counted_kinds(train).items():
+            if of_kind & dates:
+                found[kind].append(train)
+    return {kind: of_kind for kind, of_kind in found.items() if of_kind}
+
+
+def operators_of(report: Report, trains: Sequence[Train]) -> list[tuple[str, int]]:
+    """The operators, each with its number of trains, those with the most first."""
+    counts = Counter(train.face.operator for train in trains)
+    by_count = sorted(counts.items(), key=lambda item: (-item[1], item[0]))
+    return [
+        (report.names.operator(code) if code else "no operator", count) for code, count in by_count
+    ]
+
+
+def operators_listed(report: Report, trains: Sequence[Train]) -> str:
+    """Such as `Southern 236, ScotRail 8 and 2 others`."""
+    found = operators_of(report, trains)
+    words = [f"{name} {count:,}" for name, count in found[:MOST_OPERATORS]]
+    if len(found) > MOST_OPERATORS:
+        words.append(number_word(len(found) - MOST_OPERATORS, "other"))
+    return listed(words)
+
+
+def most_of_one(report: Report, trains: Sequence[Train]) -> str:
+    """The operator of more than half of the trains, as the end of a sentence."""
+    name, count = operators_of(report, trains)[0]
+    if 2 * count <= len(trains):
+        return ""
+    if count == len(trains):
+        return f", run by {name}" if count == 1 else f", all run by {name}"
+    return f", {count:,} of them run by {name}"
+
+
+def journey_rows(report: Report, trains: Sequence[Train]) -> Markup:
+    """From where to where the trains go, the most first."""
+    journeys: dict[tuple[str, str], list[str]] = {}
+    for train in trains:
+        ends = report.names.place(train.face.origin), report.names.place(train.face.destination)
+        journeys.setdefault(ends, []).append(train.face.departure)
+    found = sorted(journeys.items(), key=lambda item: (-len(item[1]), item[0]))
+    rows = [
+        fill(
+            "journey",
+            origin=origin,
+            destination=destination,
+            count=f"{len(leave):,}",
+            times=min(leave) if len(leave) == 1 else f"{min(leave)} to {max(leave)}",
+        )
+        for (origin, destination), leave in found[:MOST_JOURNEYS]
+    ]
+    others = found[MOST_JOURNEYS:]
+    if others:
+        count = sum(len(leave) for _, leave in others)
+        text = f"{number_word(len(others), 'other journey')}"
+        rows.append(fill("other_journeys", text=text, count=f"{count:,}"))
+    return lines(rows)
+
+
+# ---- what stands out
+
+
+def sentence(report: Report, peak: Peak) -> str:
+    """Such as `On Sat 13 June 264 trains are cancelled, 236 of them run by Southern.`"""
+    trains = by_kind(report.comparison.trains, peak.dates)[peak.kind]
+    when = report.calendar.words(peak.dates)
+    verb = VERBS[peak.kind][len(trains) != 1]
+    what = f"{number_word(len(trains), 'train')} {verb}{most_of_one(report, trains)}"
+    return f"{when[:1].upper()}{when[1:]} {what}."
+
+
+def in_numbers(report: Report, peak: Peak) -> str:
+    """How many trains run on a date, or on which of several dates the most differ."""
+    day = report.comparison.window.days[peak.highest]
+    if count_of(peak.dates) > 1:
+        most = report.numbers.of_kind_on_date[peak.kind][peak.highest]
+        return f"The most on one date are {most:,}, on {report.calendar.day(day)}."
+    total = total_of(report)
+    before, after = total.before[peak.highest], total.after[peak.highest]
+    more = f"{abs(after - before):,} {'more' if after > before else 'fewer'} than before"
+    if before == after:
+        more = "as many as before"
+    runs = "train runs" if after == 1 else "trains run"
+    return f"In all {after:,} {runs} on that date, {more}."
+
+
+def kind_row(report: Report, peak: Peak, kind: str, trains: Sequence[Train]) -> Markup:
+    usual = ""
+    if count_of(peak.dates) == 1:
+        counts = report.numbers.of_kind_on_date[kind]
+        usual = f"{usual_counts(counts, report.comparison.window)[peak.highest]:,}"
+    return fill(
+        "kind_on_dates",
+        kind=kind,
+        name=KIND_NAMES[kind],
+        count=f"{len(trains):,}",
+        usual=fill("usual", usual=usual) if usual else "",
+        operators=operators_listed(report, trains),
+    )
+
+
+def usual_heading(report: Report, peak: Peak) -> Markup:
+    """The head of the column of what is usual: on three quarters of the dates there aren't more."""
+    if count_of(peak.dates) > 1:
+        return Markup()
+    weekday = DAY_NAMES[report.comparison.window.days[peak.highest].weekday()]
+    return fill("usual_heading", text=f"Usual {weekday}")
+
+
+def peak_part(report: Report, number: int, peak: Peak) -> Markup:
+    found = by_kind(report.comparison.trains, peak.dates)
+    days = report.comparison.window.days
+    most = sorted(found, key=lambda kind: (kind != peak.kind, -len(found[kind])))
+    return fill(
+        "peak",
+        number=number,
+        kind=peak.kind,
+        date=days[peak.highest].isoformat(),
+        sentence=sentence(report, peak),
+        numbers=in_numbers(report, peak),
+        usual=usual_heading(report, peak),
+        rows=lines(kind_row(report, peak, kind, found[kind]) for kind in most),
+        journeys_of=KIND_NAMES[peak.kind],
+        journeys=journey_rows(report, found[peak.kind]),
+        day=report.calendar.day(days[peak.highest]),
+    )
+
+
+def largest_rows(report: Report) -> Markup:
+    """The groups that change most, in words."""
+    rows = [
+        fill(
+            "largest",
+            count=number_word(len(group), "train"),
+            changes=lines(change_words(report, change) for change in group[0].changes[:2]),
+        )
+        for group in report.groups[:MOST_CHANGES]
+    ]
+    return lines(rows)
+
+
+def largest_part(report: Report) -> Markup:
+    """Which trains change most, where there are more of them than can be seen at once."""
+    if len(report.groups) <= MOST_CHANGES:
+        return Markup()
+    return fill("largest_changes", rows=largest_rows(report))
+
+
+def highlights_section(report: Report) -> Markup:
+    """What stands out, and what changes most."""
+    parts = [peak_part(report, at, peak) for at, peak in enumerate(report.peaks, start=1)]
+    largest = largest_part(report)
+    if not parts and not largest:
+        return Markup()
+    return fill("highlights", peaks=lines(parts), largest=largest)
