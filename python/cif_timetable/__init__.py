@@ -23,22 +23,26 @@ __version__ = "0.3.0"
 from .errors import CifError
 from .exports import GtfsResult, to_gtfs, to_sqlite
 from .model import (
+    Arrival,
     Association,
     Call,
     ChangeCounts,
     ChangeEnRoute,
     Changes,
     Counts,
+    Departure,
     Difference,
     Header,
     Location,
     PublicCall,
     Schedule,
     Train,
+    Winner,
 )
 from .timetable import Timetable, changes, counts, diff, open, when
 
 __all__ = [
+    "Arrival",
     "Association",
     "Call",
     "ChangeCounts",
@@ -46,6 +50,7 @@ __all__ = [
     "Changes",
     "CifError",
     "Counts",
+    "Departure",
     "Difference",
     "GtfsResult",
     "Header",
@@ -54,6 +59,7 @@ __all__ = [
     "Schedule",
     "Timetable",
     "Train",
+    "Winner",
     "changes",
     "counts",
     "diff",

@@ -140,11 +140,17 @@ class Extract:
                 self.check_state()
 
     @contextmanager
+    def rows_of(self, words: Sequence[str], values: Sequence[str] = ()) -> Iterator[Table]:
+        """The table that a command writes, as it comes."""
+        with self.answer(words, values) as lines:
+            yield heading_of(lines)
+
+    @contextmanager
     def table(self, name: str, window: Sequence[str] | None = None) -> Iterator[Table]:
         """A table as it comes, of the window of the extract or of another part."""
         words = self.words if window is None else window
-        with self.answer(["table", "--form", FORM, *words], [name]) as lines:
-            yield heading_of(lines)
+        with self.rows_of(["table", "--form", FORM, *words], [name]) as table:
+            yield table
 
     def refusal(self) -> CifEnded | None:
         """Why `cif` refuses the extract, or None."""
@@ -176,15 +182,21 @@ class Extract:
         return header
 
     @contextmanager
+    def deciding(self) -> Iterator[Table]:
+        """Which schedule of the extract as it was given decides on each date of its window."""
+        given = self.published or self
+        with given.rows_of(["prepare", "--winners", *self.request.preparing()]) as table:
+            yield table
+
+    @contextmanager
     def winners(self) -> Iterator[Table | None]:
         """Which published schedule decides on each date, or None if it wasn't prepared from a published
         one, or by a `cif` that doesn't say."""
         if self.published is None or not says_winners(self.cif):
             yield None
             return
-        words = ["prepare", "--winners", *self.request.preparing()]
-        with self.published.answer(words) as lines:
-            yield heading_of(lines)
+        with self.deciding() as table:
+            yield table
 
 
 def says_winners(cif: Cif) -> bool:

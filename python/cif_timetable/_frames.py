@@ -13,7 +13,7 @@ NO_QUOTES = 3
 
 def frame_of(table: Table, kind: type[object]) -> pandas.DataFrame:
     """All rows of a table, with the fields of a class of `model`."""
-    names = fields_of(kind)
+    names = fields_of(kind, table.names)
     frame = pandas.read_csv(
         table.lines,
         sep="\t",
@@ -35,9 +35,9 @@ def typed(name: str, type_name: str, column: pandas.Series) -> pandas.Series:
     """A column with the type of a field."""
     if type_name == "int":
         return column.astype("int64")
-    if type_name == "date":
+    if type_name in ("date", "Date"):
         return pandas.to_datetime(column, format="%Y-%m-%d")
-    if type_name == "timedelta":
+    if type_name in ("timedelta", "Time"):
         return pandas.to_timedelta(column)
     if type_name == "time":
         read = public_time if name.startswith("public_") else working_time

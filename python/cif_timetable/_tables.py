@@ -2,7 +2,7 @@
 from __future__ import annotations
 
 from collections.abc import Callable, Collection, Iterable, Iterator, Mapping
-from dataclasses import fields
+from dataclasses import MISSING, fields
 from datetime import date, time, timedelta
 from operator import itemgetter
 from typing import IO, Any, NamedTuple, TypeVar
@@ -39,6 +39,9 @@ READERS: dict[str, Callable[[str], object]] = {
     "date": date.fromisoformat,
     "time": working_time,
     "timedelta": since_midnight,
+    # those of the clock, in fields that are called so themselves
+    "Date": date.fromisoformat,
+    "Time": time.fromisoformat,
 }
 OPTIONAL = " | None"
 
@@ -74,9 +77,14 @@ def name_in_table(name: str, names: Collection[str]) -> str:
     return "location" if plain == "tiploc" and plain not in names else plain
 
 
-def fields_of(kind: type[object]) -> dict[str, str]:
-    """The fields of a class of `model`, each with its type as it is written."""
-    return {field.name: str(field.type) for field in fields(kind)}
+def fields_of(kind: type[object], names: Collection[str] | None = None) -> dict[str, str]:
+    """The fields of a class of `model`, each with its type as it is written. Those with a default
+    aren't in every table: they are left out of one whose names don't have them."""
+    return {
+        field.name: str(field.type)
+        for field in fields(kind)
+        if names is None or field.default is MISSING or name_in_table(field.name, names) in names
+    }
 
 
 # ---- tables
@@ -106,7 +114,7 @@ class Table(NamedTuple):
     ) -> Iterator[Value]:
         """The rows as they come, as values of a class of `model`: all, or those to keep."""
         lines = self.lines if keep is None else filter(keep, self.lines)
-        names = fields_of(kind)
+        names = fields_of(kind, self.names)
         cells_at = self.cells_at([name_in_table(name, self.names) for name in names])
         readers = [reader_of(name, type_name) for name, type_name in names.items()]
         for line in lines:

@@ -10,6 +10,10 @@ from __future__ import annotations
 from dataclasses import dataclass
 from datetime import date, datetime, time, timedelta
 
+# The types of fields that are called `date` and `time` themselves.
+Date = date
+Time = time
+
 
 @dataclass(frozen=True, slots=True)
 class Header:
@@ -180,6 +184,67 @@ class PublicCall:
     departure: timedelta
     set_down: int
     pick_up: int
+
+
+@dataclass(frozen=True, slots=True)
+class _AtPlace:
+    """What departures and arrivals have in common."""
+
+    date: Date
+    time: Time
+    train_date: Date
+    uid: str
+    identity: str | None
+    operator_code: str | None
+    category: str | None
+    status: str | None
+    tiploc: str
+    platform: str | None
+    call: int
+    origin: str
+    origin_name: str | None
+    destination: str
+    destination_name: str | None
+
+
+@dataclass(frozen=True, slots=True)
+class Arrival(_AtPlace):
+    """A call at which riders may get off. `date` and `time` are those of the arrival, by the clock;
+    `train_date` is the date on which the train starts, which may be the one before. `call` is the
+    number of the call. `origin` and `destination` are TIPLOCs, those between which riders may travel;
+    a name is None where the timetable has none."""
+
+
+@dataclass(frozen=True, slots=True)
+class Departure(_AtPlace):
+    """A call at which riders may get on. `date` and `time` are those of the departure, by the clock;
+    `train_date` is the date on which the train starts, which may be the one before. `call` is the
+    number of the call. `origin` and `destination` are TIPLOCs, those between which riders may travel;
+    a name is None where the timetable has none.
+
+    If it was asked where the train calls later, `calling_at` is the first TIPLOC there at which riders
+    may get off, with the date and the time of the arrival by the clock. Else these three are None.
+    """
+
+    calling_at: str | None = None
+    calling_at_date: Date | None = None
+    calling_at_time: Time | None = None
+
+
+@dataclass(frozen=True, slots=True)
+class Winner:
+    """Dates on which one published schedule decides what a train does. It is the schedule that was
+    published with this UID, first date and letter (`stp_indicator`: P permanent, O overlay, N new, C
+    cancelled); `last_date` is None where the end is open. It decides from `wins_from` to `wins_to`, on
+    the days of `days_run`, Monday first."""
+
+    uid: str
+    first_date: date
+    last_date: date | None
+    stp_indicator: str
+    wins_from: date
+    wins_to: date
+    days_run: str
 
 
 @dataclass(frozen=True, slots=True)

@@ -9,7 +9,7 @@ import warnings
 import weakref
 from collections import Counter
 from collections.abc import Callable, Iterator, Sequence
-from contextlib import ExitStack, contextmanager
+from contextlib import AbstractContextManager, ExitStack, contextmanager
 from dataclasses import fields
 from datetime import date, datetime, time, timedelta
 from itertools import groupby
@@ -20,21 +20,24 @@ from zoneinfo import ZoneInfo
 
 from ._extract import Extract, Request, difference_of, open_extract, yymmdd
 from ._process import find_cif, ignored
-from ._tables import heading_of
+from ._tables import Table, heading_of
 from .errors import CifEnded, Unexpected
 from .model import (
+    Arrival,
     Association,
     Call,
     ChangeCounts,
     ChangeEnRoute,
     Changes,
     Counts,
+    Departure,
     Difference,
     Header,
     Location,
     PublicCall,
     Schedule,
     Train,
+    Winner,
 )
 
 if TYPE_CHECKING:
@@ -46,6 +49,7 @@ AnyPath = str | os.PathLike[str]
 
 BRITAIN = ZoneInfo("Europe/London")
 UID = re.compile("[ -~]{6}")
+PLACE = re.compile("[!-~]{1,7}")
 # A line of `cif calendar`: the Monday of a week, and a mark for each of its days.
 WEEK = re.compile(r"([0-9]{6}) (.+)")
 # The marks of a date on which no record applies, and of one outside of the window.
@@ -65,6 +69,12 @@ def checked_uid(uid: str) -> str:
     if not UID.fullmatch(uid):
         raise ValueError(f"the UID {uid!r} hasn't six characters of ASCII")
     return uid
+
+
+def checked_place(place: str) -> str:
+    if not PLACE.fullmatch(place):
+        raise ValueError(f"the place {place!r} isn't one to seven visible characters of ASCII")
+    return place
 
 
 class Timetable:
@@ -148,6 +158,39 @@ class Timetable:
             if mark not in NO_MARK
         }
 
+    def departures(
+        self, place: str, day: date, *, calling_at: str | None = None
+    ) -> Iterator[Departure]:
+        """What leaves from a place on a date, by the time of day: the calls at which riders may get on.
+
+        The place is a TIPLOC or a CRS code, in capitals or not. The date and the times are by the
+        clock, so a train of the evening before that calls after midnight is there. With `calling_at`,
+        a place too, only those trains are there on which riders may get off at that place later. A
+        place of which nothing is known has none. Raises ValueError if a place isn't one to seven
+        visible characters.
+        """
+        return values_of(self._at_place("departures", place, day, calling_at), Departure)
+
+    def arrivals(self, place: str, day: date) -> Iterator[Arrival]:
+        """What arrives at a place on a date, by the time of day: the calls at which riders may get
+        off. For all else see `departures`."""
+        return values_of(self._at_place("arrivals", place, day), Arrival)
+
+    def winners(self) -> Iterator[Winner]:
+        """Which published schedule decides on which dates what a train does, by UID and by the first of
+        these dates. What names schedules by UID, first date and letter, as messages of real time do,
+        is found so. They are those of the whole window, also where a part of it was asked for."""
+        return values_of(self._extract.deciding(), Winner)
+
+    def _at_place(
+        self, command: str, place: str, day: date, calling_at: str | None = None
+    ) -> AbstractContextManager[Table]:
+        """What leaves or arrives."""
+        words = [command, "--format", "tsv"]
+        if calling_at is not None:
+            words.append(f"--calling-at={checked_place(calling_at)}")
+        return self._extract.rows_of(words, [checked_place(place), yymmdd(day)])
+
     def _trains(
         self, window: Sequence[str], keep: Callable[[bytes], bool] | None = None
     ) -> Iterator[Train]:
@@ -203,12 +246,19 @@ class Timetable:
         window: Sequence[str] | None = None,
         keep: Callable[[bytes], bool] | None = None,
     ) -> Iterator[Value]:
-        with self._extract.table(name, window) as table:
-            yield from table.values(kind, keep)
+        return values_of(self._extract.table(name, window), kind, keep)
 
-    def frame(self, rows: str) -> pandas.DataFrame:
+    def frame(
+        self,
+        rows: str,
+        place: str | None = None,
+        day: date | None = None,
+        *,
+        calling_at: str | None = None,
+    ) -> pandas.DataFrame:
         """A table as a DataFrame of pandas, by the name of the method that iterates over it:
-        "schedules", "calls", "public_calls", "changes_en_route", "associations" or "locations".
+        "schedules", "calls", "public_calls", "changes_en_route", "associations", "locations",
+        "winners"; or "departures" or "arrivals", with the arguments of these.
 
         Dates are datetime64, times of day and moments timedelta64, numbers int64, and texts
         "string". What is None in a value is missing. Raises ValueError for another name, and
@@ -220,8 +270,24 @@ class Timetable:
         from . import _frames
 
         name, kind = TABLES[rows]
-        with self._extract.table(name) as table:
-            return _frames.frame_of(table, kind)
+        if kind in (Departure, Arrival):
+            if place is None or day is None:
+                raise TypeError(f"{rows} need a place and a day")
+            table = self._at_place(name, place, day, calling_at)
+        else:
+            table = self._extract.deciding() if kind is Winner else self._extract.table(name)
+        with table as read:
+            return _frames.frame_of(read, kind)
+
+
+def values_of(
+    table: AbstractContextManager[Table],
+    kind: type[Value],
+    keep: Callable[[bytes], bool] | None = None,
+) -> Iterator[Value]:
+    """The rows of a table as they come, all or those to keep."""
+    with table as read:
+        yield from read.values(kind, keep)
 
 
 def extract_of(timetable: Timetable) -> Extract:
@@ -237,6 +303,9 @@ TABLES: dict[str, tuple[str, type]] = {
     "changes_en_route": ("changes", ChangeEnRoute),
     "associations": ("associations", Association),
     "locations": ("tiplocs", Location),
+    "winners": ("winners", Winner),
+    "departures": ("departures", Departure),
+    "arrivals": ("arrivals", Arrival),
 }
 
 

@@ -46,6 +46,19 @@ CLASH = TRAIN.replace("2606012606071111111", "2606032606030010000").replace(
 )
 
 
+# A train that leaves before midnight, calls after it, and where riders may only get off before the end.
+NIGHT = (
+    record(f"{'BSNN000012606012606071111111 POO2N01    124745000 EMU377 100D':79}P")
+    + record("BX         SNY")
+    + record("LOHOVE    2350 23503        TB")
+    + record("LIBRGHTN  0010H0012      001100122        T")
+    + record("LISEAFORD 0020 0021      002000211        D")
+    + record("LTLEWES   0030 00301     TF")
+)
+PLACE_NAMES = "HOVE", "BRGHTN", "SEAFORD", "LEWES", "NOWHERE"
+PLACES = record(f"TIHOVE   00000000 {'HOVE':26}000000000HOV{'HOVE':16}")
+
+
 class OneTrain(InFolder):
     """An extract with one train."""
 
@@ -74,6 +87,99 @@ class OneTrain(InFolder):
             [whole] = timetable.train("W00001")
             self.assertTrue(whole.runs_on(date(2026, 6, 7)) and not whole.runs_on(date(2026, 6, 8)))
             self.assertEqual((whole.calls, []), (train.calls, timetable.train("W00002")))
+
+    def test_departures_and_arrivals(self) -> None:
+        """By the clock: what leaves on 2 June at 23:50 calls on 3 June."""
+        with cif.open(self.path(PLACES, NIGHT)) as timetable:
+            [found] = timetable.departures("hov", date(2026, 6, 2), calling_at="LEWES")
+            want = cif.Departure(
+                date=date(2026, 6, 2),
+                time=time(23, 50),
+                train_date=date(2026, 6, 2),
+                uid="N00001",
+                identity="2N01",
+                operator_code="SN",
+                category="OO",
+                status="P",
+                tiploc="HOVE",
+                platform="3",
+                call=1,
+                origin="HOVE",
+                origin_name="HOVE",
+                destination="LEWES",
+                destination_name=None,
+                calling_at="LEWES",
+                calling_at_date=date(2026, 6, 3),
+                calling_at_time=time(0, 30),
+            )
+            self.assertEqual(want, found)
+            [found] = timetable.departures("BRGHTN", date(2026, 6, 3))
+            moment = (found.date, found.time, found.train_date, found.calling_at)
+            self.assertEqual((date(2026, 6, 3), time(0, 12), date(2026, 6, 2), None), moment)
+            [came] = timetable.arrivals("BRGHTN", date(2026, 6, 3))
+            self.assertEqual((time(0, 11), 2), (came.time, came.call))
+            counts = [
+                len(list(timetable.departures(place, date(2026, 6, 3)))) for place in PLACE_NAMES
+            ]
+            self.assertEqual([1, 1, 0, 0, 0], counts)
+            counts = [
+                len(list(timetable.arrivals(place, date(2026, 6, 3)))) for place in PLACE_NAMES
+            ]
+            self.assertEqual([0, 1, 1, 1, 0], counts)
+            with self.assertRaises(cif.CifError) as caught:
+                list(timetable.departures("HOVE", date(2026, 6, 8)))
+            self.assertEqual("OutsideWindow", caught.exception.name)
+
+    def test_bad_places(self) -> None:
+        """They are refused before anything is read."""
+        with cif.open(self.path(NIGHT)) as timetable:
+            for bad in "", "TOOLONGX", "A B", "\x7f", "é":
+                for ask in timetable.departures, timetable.arrivals:
+                    with self.subTest(bad), self.assertRaises(ValueError):
+                        ask(bad, date(2026, 6, 3))
+                with self.assertRaises(ValueError):
+                    timetable.departures("HOVE", date(2026, 6, 3), calling_at=bad)
+            self.assertEqual(
+                [], list(timetable.departures("-HOV", date(2026, 6, 3), calling_at="-"))
+            )
+
+    def test_winners(self) -> None:
+        """A permanent schedule with an open end, of which an overlay takes one date."""
+        permanent = NIGHT.replace("260601260607", "260601999999")
+        overlay = NIGHT.replace("2606012606071111111", "2606032606030010000").replace(
+            "P\n", "O\n", 1
+        )
+        with cif.open(self.path(permanent, overlay), first=date(2026, 6, 3)) as timetable:
+            found = [
+                (
+                    each.stp_indicator,
+                    each.last_date,
+                    each.wins_from.day,
+                    each.wins_to.day,
+                    each.days_run,
+                )
+                for each in timetable.winners()
+            ]
+        # the only Wednesday is that of the overlay
+        want = [("P", None, 1, 7, "1101111"), ("O", date(2026, 6, 3), 3, 3, "0010000")]
+        self.assertEqual(want, found)
+        with cif.open(self.path(NIGHT)) as timetable:
+            [found] = timetable.winners()
+            days = (date(2026, 6, 1), date(2026, 6, 7))
+            self.assertEqual(cif.Winner("N00001", *days, "P", *days, "1111111"), found)
+
+    @unittest.skipUnless(importlib.util.find_spec("pandas"), "pandas isn't there")
+    def test_frame_of_departures(self) -> None:
+        with cif.open(self.path(PLACES, NIGHT)) as timetable:
+            frame = timetable.frame("departures", "HOV", date(2026, 6, 2), calling_at="LEWES")
+            self.assertEqual(timedelta(hours=23, minutes=50), frame.time[0])
+            self.assertEqual(date(2026, 6, 3), frame.calling_at_date[0].date())
+            self.assertEqual("SN", frame.operator_code[0])
+            frame = timetable.frame("arrivals", "HOV", date(2026, 6, 2))
+            self.assertEqual((0, 15), frame.shape)
+            self.assertEqual(["N00001"], list(timetable.frame("winners").uid))
+            with self.assertRaises(TypeError):
+                timetable.frame("departures")
 
     def test_clash(self) -> None:
         """It is refused, or dropped with a warning at the line of the caller."""
@@ -291,7 +397,7 @@ class Asking(unittest.TestCase):
     @unittest.skipUnless(importlib.util.find_spec("pandas"), "pandas isn't there")
     def test_frames(self) -> None:
         """The same rows as those of the iterators."""
-        for name in ("schedules", "calls", "public_calls", "associations", "locations"):
+        for name in ("schedules", "calls", "public_calls", "associations", "locations", "winners"):
             frame = self.timetable.frame(name)
             values = list(getattr(self.timetable, name)())
             self.assertEqual(len(values), len(frame))
