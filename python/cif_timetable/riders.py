@@ -42,13 +42,17 @@ def sort_of(status: str, category: str, changes: Iterable[tuple[int, str]]) -> S
 
 def at_arrival(sort: Sort, number: int) -> bool:
     """Whether a train is for riders when it arrives at the call with this number."""
-    before = [change for change in sort[1:] if change.number < number]
-    return (before or sort)[-1 if before else 0].is_for_riders
+    found = sort[0].is_for_riders
+    for change in sort:
+        if change.number >= number:
+            break
+        found = change.is_for_riders
+    return found
 
 
 def at_departure(sort: Sort, number: int) -> bool:
     """Whether it is when it leaves."""
-    return [change for change in sort if change.number <= number][-1].is_for_riders
+    return at_arrival(sort, number + 1)
 
 
 def is_ever(sort: Sequence[Change]) -> bool:

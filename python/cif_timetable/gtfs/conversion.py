@@ -99,7 +99,7 @@ class Timetable:
     associations: list[Association]
     schedules: Schedules
     # the categories that schedules get en route
-    changes: dict[bytes, list[Change]]
+    changes: dict[bytes, tuple[Change, ...]]
     # of each train with associations, where it has to stop for these
     spots: dict[str, set[Spot]]
 

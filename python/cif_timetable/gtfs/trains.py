@@ -1,7 +1,7 @@
 """The public trains of an extract: schedules with two public calls or more where they are for riders."""
 from __future__ import annotations
 
-from collections.abc import Iterable, Iterator, Mapping, Sequence
+from collections.abc import Iterable, Iterator, Mapping
 from enum import Enum
 from operator import itemgetter
 from types import MappingProxyType
@@ -79,21 +79,30 @@ PublicTrain = tuple[Dates, About, Record, bytes, bytes]
 FIRST = "schedule uid first_date last_date days_run".split()
 SHOWN = "reserved_a identity operator_code".split()
 SORT = Fields._fields
+CHANGED = ("schedule", "call", "category")
 NO_CALLS = (b"", b"")
 NEVER = b"1"
+FOR_NOBODY = b"\t1\t1\n"
 
 
 # The category that a schedule gets from a call with this number on.
 Change = tuple[int, str]
 
 
-def read_changes(table: Table) -> dict[bytes, list[Change]]:
+def read_changes(table: Table) -> dict[bytes, tuple[Change, ...]]:
     """The categories that schedules get en route, by their numbers."""
-    cells_at = table.cells_at(("schedule", "call", "category"))
-    found: dict[bytes, list[Change]] = {}
+    cells_at, last = table.cells_at(CHANGED), max(map(table.names.index, CHANGED)) + 1
+    found: dict[bytes, tuple[Change, ...]] = {}
+    # most changes are equal to others
+    known: dict[tuple[bytes, bytes], tuple[Change, ...]] = {}
     for line in table.lines:
-        schedule, call, category = cells_at(line.decode().rstrip("\n").split("\t"))
-        found.setdefault(schedule.encode(), []).append((int(call), category))
+        schedule, *change = cells_at(line.rstrip(b"\n").split(b"\t", last))
+        key = (change[0], change[1])
+        one = known.get(key)
+        if one is None:
+            one = known[key] = ((int(key[0]), key[1].decode()),)
+        before = found.get(schedule)
+        found[schedule] = before + one if before else one
     return found
 
 
@@ -101,16 +110,24 @@ def calls_for_riders(text: bytes, sort: Sort) -> bytes:
     """The rows of `public` of a schedule where it is for riders, of which nobody gets off where it
     becomes so, and nobody gets on where it becomes something else."""
     rows = []
-    for line in text.splitlines():
-        *others, set_down, pick_up = line.split(b"\t")
-        call = int(others[1])
-        flags = (
-            set_down if at_arrival(sort, call) else NEVER,
-            pick_up if at_departure(sort, call) else NEVER,
-        )
-        if flags != (NEVER, NEVER):
-            rows.append(b"\t".join((*others, *flags)) + b"\n")
+    for line in text.splitlines(keepends=True):
+        call = int(line.split(b"\t", 2)[1])
+        arrives, leaves = at_arrival(sort, call), at_departure(sort, call)
+        if arrives != leaves:
+            *others, set_down, pick_up = line.rstrip(b"\n").split(b"\t")
+            flags = (set_down if arrives else NEVER, pick_up if leaves else NEVER)
+            line = b"\t".join((*others, *flags)) + b"\n"
+        if (arrives or leaves) and not line.endswith(FOR_NOBODY):
+            rows.append(line)
     return b"".join(rows)
+
+
+class Changing(NamedTuple):
+    """Where a train that changes its category is for riders, and the end of what is shown of it, or
+    None if it never is."""
+
+    sort: Sort
+    ending: bytes | None
 
 
 class ScheduleReader:
@@ -121,7 +138,7 @@ class ScheduleReader:
         names: list[str],
         window: Window,
         types: Mapping[Kind, int],
-        changes: Mapping[bytes, Sequence[Change]] = MappingProxyType({}),
+        changes: Mapping[bytes, tuple[Change, ...]] = MappingProxyType({}),
     ) -> None:
         if names[: len(FIRST)] != FIRST:
             raise Unexpected("cif writes another table of schedules: is it another release?")
@@ -135,6 +152,7 @@ class ScheduleReader:
         self.not_for_riders = 0
         # the end of what is shown of each sort, or None if it isn't for riders
         self.known: dict[tuple[bytes, ...], bytes | None] = {}
+        self.known_changing: dict[tuple[tuple[bytes, ...], tuple[Change, ...]], Changing] = {}
 
     def ending(self, fields: Fields) -> bytes | None:
         """The route type and whether it takes bicycles, or None if it isn't for riders."""
@@ -155,21 +173,29 @@ class ScheduleReader:
             return retail, None
         return retail, b"\t".join((identity, operator, ending))
 
+    def changing(self, cells: tuple[bytes, ...], changes: tuple[Change, ...]) -> Changing:
+        """The same of one that changes its category en route: where it is for riders, too."""
+        fields = Fields(*(cell.decode() for cell in cells))
+        sort = sort_of(fields.status, fields.category, changes)
+        categories = (fields.category, *(category for _, category in changes))
+        endings = (self.ending(fields._replace(category=category)) for category in categories)
+        return Changing(sort, next(filter(None, endings)) if is_ever(sort) else None)
+
     def changed(
         self, number: bytes, others: bytes, text: bytes
     ) -> tuple[bytes, About | None, bytes]:
         """The retail service id, what the train is, and the rows of `public`, of a schedule that
         changes its category en route."""
         cells = others.rstrip(b"\n").split(b"\t")
-        fields = Fields(*(cell.decode() for cell in self.sort_at(cells)))
-        sort = sort_of(fields.status, fields.category, self.changes[number])
         retail, identity, operator = self.shown_at(cells)
-        if not is_ever(sort):
+        key = self.sort_at(cells), self.changes[number]
+        found = self.known_changing.get(key)
+        if found is None:
+            found = self.known_changing[key] = self.changing(*key)
+        if found.ending is None:
             return retail, None, text
-        categories = (fields.category, *(category for _, category in self.changes[number]))
-        endings = (self.ending(fields._replace(category=category)) for category in categories)
-        about = b"\t".join((identity, operator, next(filter(None, endings))))
-        return retail, about, calls_for_riders(text, sort) if sort[1:] else text
+        about = b"\t".join((identity, operator, found.ending))
+        return retail, about, calls_for_riders(text, found.sort) if found.sort[1:] else text
 
     def public_trains(
         self, schedules: Iterable[bytes], table: Table
