@@ -726,7 +726,7 @@ def check_stands_out(counts: Counts, maker: Maker) -> None:
     [peak] = page.peaks
     counts.same(
         "a Friday, the sentence",
-        "On Fri 12 June 12 trains are cancelled, all run by Southern.",
+        "On Fri 12 June 12 Southern trains are cancelled.",
         peak.sentence,
     )
     text = "In all 37 trains run on that date, 12 fewer than before."

@@ -308,8 +308,8 @@ def check_peak(counts: Counts, name: str, expected: Expected, peak: Peak, shown:
         usual = {kind: expected.usual(kind, peak.highest) for kind in trains}
     counts.same(f"{name}, what is usual", usual, shown.usual)
     count = len(trains[peak.kind])
-    text = f" {count:,} train" + ("s " if count > 1 else " ")
-    counts.test(f"{name}, in words", text in shown.sentence, shown.sentence)
+    text = f" {count:,} (.* )?train" + ("s " if count > 1 else " ")
+    counts.test(f"{name}, in words", re.search(text, shown.sentence), shown.sentence)
     operators = Counter(
         expected.body_on(uid, peak).schedule["operator_code"] for uid in trains[peak.kind]
     )

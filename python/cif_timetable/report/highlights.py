@@ -45,31 +45,20 @@ def by_kind(trains: Sequence[Train], dates: Dates) -> dict[str, list[Train]]:
 
 
 def operators_of(report: Report, trains: Sequence[Train]) -> list[tuple[str, int]]:
-    """The operators, each with its number of trains, those with the most first."""
+    """The operators, each with its number of trains, those with the most first. One without an operator
+    has no name."""
     counts = Counter(train.face.operator for train in trains)
     by_count = sorted(counts.items(), key=lambda item: (-item[1], item[0]))
-    return [
-        (report.names.operator(code) if code else "no operator", count) for code, count in by_count
-    ]
+    return [(report.names.operator(code) if code else "", count) for code, count in by_count]
 
 
 def operators_listed(report: Report, trains: Sequence[Train]) -> str:
     """Such as `Southern 236, ScotRail 8 and 2 others`."""
     found = operators_of(report, trains)
-    words = [f"{name} {count:,}" for name, count in found[:MOST_OPERATORS]]
+    words = [f"{name or 'no operator'} {count:,}" for name, count in found[:MOST_OPERATORS]]
     if len(found) > MOST_OPERATORS:
         words.append(number_word(len(found) - MOST_OPERATORS, "other"))
     return listed(words)
-
-
-def most_of_one(report: Report, trains: Sequence[Train]) -> str:
-    """The operator of more than half of the trains, as the end of a sentence."""
-    name, count = operators_of(report, trains)[0]
-    if 2 * count <= len(trains):
-        return ""
-    if count == len(trains):
-        return f", run by {name}" if count == 1 else f", all run by {name}"
-    return f", {count:,} of them run by {name}"
 
 
 def journey_rows(report: Report, trains: Sequence[Train]) -> Markup:
@@ -101,12 +90,17 @@ def journey_rows(report: Report, trains: Sequence[Train]) -> Markup:
 
 
 def sentence(report: Report, peak: Peak) -> str:
-    """Such as `On Sat 13 June 264 trains are cancelled, 236 of them run by Southern.`"""
+    """Such as `On Sat 13 June 264 trains are cancelled, 236 of them run by Southern.`, or `On Fri 12
+    June 12 Southern trains are cancelled.`"""
     trains = by_kind(report.comparison.trains, peak.dates)[peak.kind]
     when = report.calendar.words(peak.dates)
+    operator, of_one = operators_of(report, trains)[0]
+    whose = f"{operator} " if operator and of_one == len(trains) else ""
     verb = VERBS[peak.kind][len(trains) != 1]
-    what = f"{number_word(len(trains), 'train')} {verb}{most_of_one(report, trains)}"
-    return f"{when[:1].upper()}{when[1:]} {what}."
+    text = f"{when[:1].upper()}{when[1:]} {number_word(len(trains), f'{whose}train')} {verb}"
+    if operator and len(trains) < 2 * of_one < 2 * len(trains):
+        text += f", {of_one:,} of them run by {operator}"
+    return f"{text}."
 
 
 def in_numbers(report: Report, peak: Peak) -> str:
