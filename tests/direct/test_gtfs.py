@@ -12,9 +12,16 @@ from cif_timetable.gtfs.calls import Stop, row_at, rounded_up
 from cif_timetable.gtfs.feed import Winner
 from cif_timetable.gtfs.parts import Index, Part, Schedules, parts_of
 from cif_timetable.gtfs.services import Services
-from cif_timetable.gtfs.trains import EXTENDED_TYPES, Fields, Kind, kind_of
+from cif_timetable.gtfs.trains import (
+    EXTENDED_TYPES,
+    Fields,
+    Kind,
+    calls_for_riders,
+    kind_of,
+    read_changes,
+)
 from cif_timetable.gtfs.user_files import LinkRow, minutes_of
-from cif_timetable.riders import is_for_riders
+from cif_timetable.riders import is_for_riders, sort_of
 
 # 28 days from a Monday on.
 WINDOW = Window(date(2026, 6, 1), date(2026, 6, 28))
@@ -127,6 +134,28 @@ class KindsOfTrains(unittest.TestCase):
             ("T", ""),
         ):
             self.assertFalse(is_for_riders(status, category), (status, category))
+
+
+class ChangesEnRoute(unittest.TestCase):
+    """A train that is for riders on a part of its way."""
+
+    def test_read(self) -> None:
+        rows = b"1\t3\tA\t\tOO\tx\n1\t5\tB\t\tEE\tx\n2\t3\tA\t\tOO\tx\n"
+        names = "schedule call location suffix category identity".split()
+        want = {b"1": ((3, "OO"), (5, "EE")), b"2": ((3, "OO"),)}
+        self.assertEqual(want, read_changes(Table(names, io.BytesIO(rows))))
+
+    def test_calls(self) -> None:
+        """Riders get on at the third call and off at the fifth, and don't ride before or after. The
+        fourth sets down only, and where the change makes it a call for nobody it is none."""
+        flags = "00 00 00 01 00 00".split()
+        rows = [f"7\t{at}\tA\t1\t1\t1\t{off}\t{on}\n" for at, (off, on) in enumerate(flags, 1)]
+        sort = sort_of("P", "EE", [(3, "OO"), (5, "EE")])
+        third, fifth = "7\t3\tA\t1\t1\t1\t1\t0\n", "7\t5\tA\t1\t1\t1\t0\t1\n"
+        found = calls_for_riders("".join(rows).encode(), sort)
+        self.assertEqual(f"{third}{rows[3]}{fifth}", found.decode())
+        sort = sort_of("P", "EE", [(4, "OO")])
+        self.assertEqual("".join(rows[4:]), calls_for_riders("".join(rows).encode(), sort).decode())
 
 
 class TimesOfStops(unittest.TestCase):

@@ -168,6 +168,10 @@ class OneTrain(InFolder):
             days = (date(2026, 6, 1), date(2026, 6, 7))
             want_all = [cif.Winner("N00001", *days, "P", *days, "1111111")]
             self.assertEqual(want_all, list(timetable.winners()))
+        # 25 May is a holiday, on which this one doesn't run
+        with cif.open(PUBLISHED, holidays=HOLIDAYS) as timetable:
+            ends = [each.wins_to for each in timetable.winners() if each.uid == "W20101"]
+        self.assertEqual(date(2026, 5, 22), ends[0])
 
     @unittest.skipUnless(importlib.util.find_spec("pandas"), "pandas isn't there")
     def test_frame_of_departures(self) -> None:
