@@ -169,18 +169,19 @@ def axis(days: Sequence[date], near_edge: float) -> Markup:
     return Markup("".join(parts))
 
 
-def marks_at(marks: Mapping[int, str], count: int) -> Markup:
-    """Marks at dates, by their numbers. One near another stands above it."""
+def marks_at(marks: Mapping[int, str], count: int) -> tuple[Markup, int]:
+    """Marks at dates, by their numbers, and how many stand above one another: one near another stands
+    above it."""
     parts: list[Markup] = []
-    level, before = 0, -100.0
+    level, highest, before = 0, 0, -100.0
     for number, text in sorted(marks.items()):
         left = place_of(number + 0.5, count)
         level = level + 1 if left - before < NEAR_MARK else 0
-        before = left
+        highest, before = max(highest, level + 1), left
         parts.append(
             Markup(f'<span class="at level-of-{level}" style="left:{left:g}%"><b>{text}</b></span>')
         )
-    return joined(parts)
+    return joined(parts), highest
 
 
 def extremes(series: Series, calendar: Calendar) -> list[tuple[int, str]]:
@@ -254,7 +255,7 @@ def chart(
         less=bars(series.differences, -1, reach),
         labels=joined(labels),
         ticks=axis(calendar.window.days, near_edge),
-        **{"marks": Markup(), "weeks": Markup(), **more},
+        **{"marks": Markup(), "levels": Markup(0), "weeks": Markup(), **more},
     )
 
 
@@ -265,6 +266,7 @@ def small_chart(code: str, name: str, series: Series, calendar: Calendar, reach:
 
 def large_chart(series: Series, calendar: Calendar, marks: Mapping[int, str]) -> Markup:
     """The one of all trains, with marks at dates, and the weeks below."""
+    found, levels = marks_at(marks, len(series.before))
     return chart(
         "all",
         "All trains",
@@ -272,7 +274,8 @@ def large_chart(series: Series, calendar: Calendar, marks: Mapping[int, str]) ->
         calendar,
         reach_of([series]),
         small=False,
-        marks=marks_at(marks, len(series.before)),
+        marks=found,
+        levels=Markup(levels),
         weeks=weekly(weeks_of(series, calendar.window.days), calendar),
     )
 
