@@ -148,8 +148,8 @@ class ChangesEnRoute(unittest.TestCase):
     def test_calls(self) -> None:
         """Riders get on at the third call and off at the fifth, and don't ride before or after. The
         fourth sets down only, and where the change makes it a call for nobody it is none."""
-        flags = "00 00 00 01 00 00".split()
-        rows = [f"7\t{at}\tA\t1\t1\t1\t{off}\t{on}\n" for at, (off, on) in enumerate(flags, 1)]
+        flags = ["0\t0"] * 3 + ["0\t1"] + ["0\t0"] * 2
+        rows = [f"7\t{at}\tA\t1\t1\t1\t{each}\n" for at, each in enumerate(flags, 1)]
         sort = sort_of("P", "EE", [(3, "OO"), (5, "EE")])
         third, fifth = "7\t3\tA\t1\t1\t1\t1\t0\n", "7\t5\tA\t1\t1\t1\t0\t1\n"
         found = calls_for_riders("".join(rows).encode(), sort)
