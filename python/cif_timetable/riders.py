@@ -2,6 +2,7 @@
 from __future__ import annotations
 
 from collections.abc import Iterable, Sequence
+from functools import lru_cache
 from typing import NamedTuple
 
 # What has public times now and then, though it isn't for riders, from memory: empty stock, staff
@@ -12,6 +13,7 @@ FREIGHT = set("FT23")
 DIGITS = set("0123456789")
 
 
+@lru_cache(maxsize=4096)
 def is_for_riders(status: str, category: str) -> bool:
     is_freight = status in FREIGHT or bool(DIGITS & set(category))
     return not is_freight and category not in NOT_FOR_RIDERS

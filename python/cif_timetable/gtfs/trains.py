@@ -11,7 +11,7 @@ from .._schedules import calls_by_schedule
 from .._tables import Table
 from ..days import Dates, Window, count_of
 from ..errors import Unexpected
-from ..riders import Sort, at_arrival, at_departure, is_ever, is_for_riders, sort_of
+from ..riders import Sort, is_ever, is_for_riders, sort_of
 
 
 class Kind(Enum):
@@ -110,14 +110,22 @@ def calls_for_riders(text: bytes, sort: Sort) -> bytes:
     """The rows of `public` of a schedule where it is for riders, of which nobody gets off where it
     becomes so, and nobody gets on where it becomes something else."""
     rows = []
+    arrives, *changes = sort
+    for_riders = arrives.is_for_riders
+    changes.reverse()
     for line in text.splitlines(keepends=True):
-        call = int(line.split(b"\t", 2)[1])
-        arrives, leaves = at_arrival(sort, call), at_departure(sort, call)
-        if arrives != leaves:
+        before = for_riders
+        if changes:
+            call = int(line.split(b"\t", 2)[1])
+            while changes and changes[-1].number < call:
+                before = for_riders = changes.pop().is_for_riders
+            while changes and changes[-1].number == call:
+                for_riders = changes.pop().is_for_riders
+        if before != for_riders:
             *others, set_down, pick_up = line.rstrip(b"\n").split(b"\t")
-            flags = (set_down if arrives else NEVER, pick_up if leaves else NEVER)
+            flags = (set_down if before else NEVER, pick_up if for_riders else NEVER)
             line = b"\t".join((*others, *flags)) + b"\n"
-        if (arrives or leaves) and not line.endswith(FOR_NOBODY):
+        if (before or for_riders) and not line.endswith(FOR_NOBODY):
             rows.append(line)
     return b"".join(rows)
 
@@ -161,25 +169,29 @@ class ScheduleReader:
         end = BIKES if fields.reservations == "E" else b"\n"
         return b"%d" % self.types[kind_of(fields)] + end
 
+    def ending_of(self, cells: tuple[bytes, ...]) -> bytes | None:
+        """The same of these fields as they stand. Those of most schedules are alike."""
+        if cells not in self.known:
+            self.known[cells] = self.ending(Fields(*(cell.decode() for cell in cells)))
+        return self.known[cells]
+
     def read_others(self, text: bytes) -> tuple[bytes, About | None]:
         """The retail service id, and what the train is, of the fields after the first ones."""
         cells = text.rstrip(b"\n").split(b"\t")
         retail, identity, operator = self.shown_at(cells)
-        sort = self.sort_at(cells)
-        if sort not in self.known:
-            self.known[sort] = self.ending(Fields(*(cell.decode() for cell in sort)))
-        ending = self.known[sort]
+        ending = self.ending_of(self.sort_at(cells))
         if ending is None:
             return retail, None
         return retail, b"\t".join((identity, operator, ending))
 
     def changing(self, cells: tuple[bytes, ...], changes: tuple[Change, ...]) -> Changing:
-        """The same of one that changes its category en route: where it is for riders, too."""
-        fields = Fields(*(cell.decode() for cell in cells))
-        sort = sort_of(fields.status, fields.category, changes)
-        categories = (fields.category, *(category for _, category in changes))
-        endings = (self.ending(fields._replace(category=category)) for category in categories)
-        return Changing(sort, next(filter(None, endings)) if is_ever(sort) else None)
+        """Where a train that changes its category en route is for riders, and the end of what is shown
+        of it, as of the first category that is."""
+        status, category, *others = cells
+        sort = sort_of(status.decode(), category.decode(), changes)
+        categories = (category, *(each.encode() for _, each in changes)) if is_ever(sort) else ()
+        endings = (self.ending_of((status, each, *others)) for each in categories)
+        return Changing(sort, next(filter(None, endings), None))
 
     def changed(
         self, number: bytes, others: bytes, text: bytes
