@@ -734,6 +734,32 @@ def check_stands_out(counts: Counts, maker: Maker) -> None:
     counts.same("a Friday, what is usual", {"cancelled": 0}, peak.usual)
 
 
+def check_largest(counts: Counts, maker: Maker) -> None:
+    """Eight trains that are later, each on another date, and three with other platforms on all dates:
+    no date stands out."""
+    every_day = [
+        replace(OTHER, uid=f"E{number:05}", calls=moved(OTHER.calls, number))
+        for number in range(11)
+    ]
+    changed = [
+        replace(each, calls=tuple(replace(call, platform="9") for call in each.calls))
+        for each in every_day[8:]
+    ]
+    for number, each in enumerate(every_day[:8], 1):
+        day = june(number)
+        changed += [each, overlay(each, day, day, calls=moved(each.calls, 12))]
+    old = write(maker, "largest-old.cif", extract(every_day))
+    page = maker.page(old, write(maker, "largest-new.cif", extract(changed)))
+    counts.same("the largest changes, what stands out", [], page.peaks)
+    want = [
+        ("3 trains", "Other platforms at 5 places", "every day"),
+        ("8 trains", "12 min later", "on dates from 1 to 8 June"),
+    ]
+    counts.same("the largest changes", want, page.largest)
+    sentence = "The largest change is “Other platforms at 5 places”, of 3 trains. 11 trains are"
+    counts.test("the largest change first", page.lead.startswith(sentence), page.lead)
+
+
 def check_example(counts: Counts, maker: Maker) -> None:
     """What README shows."""
     folder = TOP / "examples"
@@ -764,4 +790,5 @@ def check(counts: Counts, maker: Maker) -> None:
     check_order(counts, maker)
     check_most(counts, maker)
     check_stands_out(counts, maker)
+    check_largest(counts, maker)
     check_example(counts, maker)

@@ -141,6 +141,10 @@ class Page:
     def __init__(self, path: Path) -> None:
         self.markup = path.read_text(encoding="utf-8")
         self.text = text_of(re.sub(r"(?s)<(style|script).*?</\1>", "", self.markup))
+        largest = re.findall(
+            r'<li><b>(.*?)</b> (.*?) <span class="when">(.*?)</span></li>', self.markup
+        )
+        self.largest = [(count, unescape(what), unescape(when)) for count, what, when in largest]
         self.lead = text_of(re.findall(r'<p class="lead">(.*?)</p>', self.markup)[0])
         found = re.findall(
             r'data-figure="(\w+)" class="\w+"><dt>(.*?)</dt><dd>(.*?)</dd>', self.markup

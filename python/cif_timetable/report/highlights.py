@@ -3,15 +3,16 @@ from __future__ import annotations
 
 from collections import Counter
 from collections.abc import Sequence
+from typing import NamedTuple
 
 from ..days import Dates, count_of
 from .comparison import Train, counted_kinds
 from .daily import total_of
 from .days import DAY_NAMES, listed
-from .peaks import Peak, usual_counts
+from .peaks import WEIGHTS, Peak, usual_counts
 from .report import Report, number_word
 from .templates import Markup, fill, lines
-from .trains import KIND_NAMES, change_words
+from .trains import KIND_NAMES, change_text
 from .words import CANCELLED, DATA, KINDS, NUMBERS, PLACES, PLATFORMS, RUNS, TIMES
 
 # So many operators and so many journeys are listed of what stands out, and so many other changes.
@@ -160,24 +161,67 @@ def peak_part(report: Report, number: int, peak: Peak) -> Markup:
     )
 
 
-def largest_rows(report: Report) -> Markup:
-    """The groups that change most, in words."""
-    rows = [
-        fill(
-            "largest",
-            count=number_word(len(group), "train"),
-            changes=lines(change_words(report, change) for change in group[0].changes[:2]),
-        )
-        for group in report.groups[:MOST_CHANGES]
+class Large(NamedTuple):
+    """A change in words, the trains that have it on whatever dates, and the dates of each."""
+
+    text: str
+    dates: list[Dates]
+    rank: int
+
+
+def largest_changes(report: Report) -> list[Large]:
+    """The changes in words, those of the most train and dates first, where there are more groups of
+    trains than can be seen at once."""
+    if len(report.groups) <= MOST_CHANGES:
+        return []
+    dates: dict[str, list[Dates]] = {}
+    weights: dict[str, int] = {}
+    for train in report.comparison.trains:
+        for change in train.changes:
+            text = change_text(change)
+            dates.setdefault(text, []).append(change.dates)
+            weights[text] = max(WEIGHTS[phrase.kind] for phrase in change.phrases)
+    found = [
+        Large(text, of_text, weights[text] * sum(map(count_of, of_text)))
+        for text, of_text in dates.items()
     ]
-    return lines(rows)
+    return sorted(found, key=lambda large: -large.rank)[:MOST_CHANGES]
+
+
+def when_of(report: Report, large: Large) -> str:
+    """The dates of all trains, if they are the same, or from when to when they are."""
+    if len(set(large.dates)) == 1:
+        return report.calendar.words(large.dates[0])
+    all_dates = 0
+    for dates in large.dates:
+        all_dates |= dates
+    days = report.comparison.window.days
+    first = days[(all_dates & -all_dates).bit_length() - 1]
+    return f"on dates from {report.calendar.period(first, days[all_dates.bit_length() - 1])}"
 
 
 def largest_part(report: Report) -> Markup:
-    """Which trains change most, where there are more of them than can be seen at once."""
-    if len(report.groups) <= MOST_CHANGES:
-        return Markup()
-    return fill("largest_changes", rows=largest_rows(report))
+    """Which changes are the largest."""
+    rows = [
+        fill(
+            "largest",
+            count=number_word(len(large.dates), "train"),
+            what=large.text,
+            when=when_of(report, large),
+        )
+        for large in largest_changes(report)
+    ]
+    return fill("largest_changes", rows=lines(rows)) if rows else Markup()
+
+
+def first_sentence(report: Report) -> str:
+    """What stands out most, or else the largest change."""
+    if report.peaks:
+        return sentence(report, report.peaks[0])
+    large = next(iter(largest_changes(report)), None)
+    if large is None:
+        return ""
+    return f"The largest change is “{large.text}”, of {number_word(len(large.dates), 'train')}."
 
 
 def highlights_section(report: Report) -> Markup:

@@ -5,7 +5,7 @@ import os
 from datetime import date, datetime
 
 from .days import MONTH_NAMES
-from .highlights import sentence
+from .highlights import first_sentence
 from .pair import Side
 from .report import Report, number_word
 from .schedules import Schedules
@@ -52,11 +52,12 @@ def lead(report: Report) -> str:
     differing = sum(1 for trains in report.numbers.of_date if trains)
     verb = "is" if len(found.trains) == 1 else "are"
     trains = number_word(len(found.trains), "train")
-    first = f"{sentence(report, report.peaks[0])} " if report.peaks else ""
+    first = first_sentence(report)
     on = f"on {differing:,} of {dates}"
     if differing == count:
         on = f"on all {count:,} dates compared" if count > 1 else f"on {dates}"
-    return f"{first}{trains} {verb} different, {on}. {in_all(found.old.trains, found.new.trains)}"
+    all_trains = in_all(found.old.trains, found.new.trains)
+    return f"{first} {trains} {verb} different, {on}. {all_trains}".lstrip()
 
 
 def in_all(before: int, after: int) -> str:

@@ -121,12 +121,17 @@ def changes_for_script(train: Train) -> str:
     return ";".join(f"{kind} {ranges(dates)}" for kind, dates in train.kinds().items())
 
 
-def change_words(report: Report, change: Change) -> Markup:
+def change_text(change: Change) -> str:
+    """What is different, in words."""
     texts = "; ".join(dict.fromkeys(phrase.text for phrase in change.phrases))
+    return texts[:1].upper() + texts[1:]
+
+
+def change_words(report: Report, change: Change) -> Markup:
     when = report.calendar.words(change.dates)
     if change.phrases[0].text == GONE_FOR_GOOD:
         when = f"(it ran {when})"
-    return fill("change", what=texts[:1].upper() + texts[1:], when=when)
+    return fill("change", what=change_text(change), when=when)
 
 
 # ---- calls
