@@ -13,7 +13,7 @@ from .peaks import WEIGHTS, Peak, usual_counts
 from .report import Report, number_word
 from .templates import Markup, fill, lines
 from .trains import KIND_NAMES, change_text
-from .words import CANCELLED, DATA, KINDS, NUMBERS, PLACES, PLATFORMS, RUNS, TIMES
+from .words import CANCELLED, DATA, GONE_FOR_GOOD, KINDS, NUMBERS, PLACES, PLATFORMS, RUNS, TIMES
 
 # So many operators and so many journeys are listed of what stands out, and so many other changes.
 MOST_OPERATORS = 3
@@ -189,6 +189,13 @@ def largest_changes(report: Report) -> list[Large]:
 
 
 def when_of(report: Report, large: Large) -> str:
+    when = dates_of(report, large)
+    if large.text.lower() == GONE_FOR_GOOD:
+        return f"({'it' if len(large.dates) == 1 else 'they'} ran {when})"
+    return when
+
+
+def dates_of(report: Report, large: Large) -> str:
     """The dates of all trains, if they are the same, or from when to when they are."""
     if len(set(large.dates)) == 1:
         return report.calendar.words(large.dates[0])
