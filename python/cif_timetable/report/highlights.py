@@ -10,7 +10,7 @@ from .comparison import Train, counted_kinds
 from .daily import total_of
 from .days import DAY_NAMES, listed
 from .peaks import WEIGHTS, Peak, usual_counts
-from .report import Report, number_word
+from .report import Report, number_word, than_before
 from .templates import Markup, fill, lines
 from .trains import KIND_NAMES, change_text
 from .words import CANCELLED, DATA, GONE_FOR_GOOD, KINDS, NUMBERS, PLACES, PLATFORMS, RUNS, TIMES
@@ -112,11 +112,8 @@ def in_numbers(report: Report, peak: Peak) -> str:
         return f"The most on one date are {most:,}, on {report.calendar.day(day)}."
     total = total_of(report)
     before, after = total.before[peak.highest], total.after[peak.highest]
-    more = f"{abs(after - before):,} {'more' if after > before else 'fewer'} than before"
-    if before == after:
-        more = "as many as before"
     runs = "train runs" if after == 1 else "trains run"
-    return f"In all {after:,} {runs} on that date, {more}."
+    return f"In all {after:,} {runs} on that date, {than_before(before, after)}."
 
 
 def kind_row(report: Report, peak: Peak, kind: str, trains: Sequence[Train]) -> Markup:

@@ -42,6 +42,13 @@ def number_word(count: int, one: str, more: str = "") -> str:
     return f"{count:,} {one if count == 1 else more or one + 's'}"
 
 
+def than_before(before: int, after: int) -> str:
+    """Such as `259 fewer than before`."""
+    if before == after:
+        return "as many as before"
+    return f"{abs(after - before):,} {'more' if after > before else 'fewer'} than before"
+
+
 def signed(number: int) -> str:
     """Such as `+3`, or `−3`."""
     return f"+{number:,}" if number > 0 else f"{number:,}".replace("-", "−")

@@ -7,7 +7,7 @@ from datetime import date, datetime
 from .days import MONTH_NAMES
 from .highlights import first_sentence
 from .pair import Side
-from .report import Report, number_word
+from .report import Report, number_word, than_before
 from .schedules import Schedules
 from .templates import Markup, fill, joined, lines
 from .words import CANCELLED, DATA, NUMBERS, PLACES, PLATFORMS, RUNS, TIMES
@@ -63,10 +63,7 @@ def lead(report: Report) -> str:
 def in_all(before: int, after: int) -> str:
     """How many trains there are."""
     verb = "is" if after == 1 else "are"
-    more = f"{abs(after - before):,} {'more' if after > before else 'fewer'} than before"
-    if before == after:
-        more = "as many as before"
-    return f"There {verb} {number_word(after, 'train')} in all, {more}."
+    return f"There {verb} {number_word(after, 'train')} in all, {than_before(before, after)}."
 
 
 def warning(report: Report) -> Markup:
