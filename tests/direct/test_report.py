@@ -1,11 +1,22 @@
 """Functions of cif-report."""
 from __future__ import annotations
 
+import re
 import unittest
 from datetime import date, timedelta
 
 from cif_timetable.days import Window, numbers_of
-from cif_timetable.report.charts import MOST_TICKS, nice_step, share, tick_days
+from cif_timetable.report.charts import (
+    MOST_TICKS,
+    Reach,
+    Series,
+    bars_of_weeks,
+    marks_at,
+    nice_step,
+    share,
+    tick_days,
+    weeks_of,
+)
 from cif_timetable.report.comparison import Change, Face, Train
 from cif_timetable.report.groups import all_groups, groups_of
 from cif_timetable.report.peaks import Peak, peaks_of, usual_of
@@ -160,6 +171,26 @@ class Charts(unittest.TestCase):
             with self.subTest(count):
                 ticks = self.ticks(date(2026, 6, 1), count)
                 self.assertTrue(3 < len(ticks) <= MOST_TICKS, ticks)
+
+    def test_marks_near_one_another(self) -> None:
+        """They stand above one another: less than 8 per cent of the width apart."""
+        found, levels = marks_at({40: "1", 12: "3", 5: "2", 0: "4"}, 100)
+        self.assertEqual(3, levels)
+        marks = re.findall(r"level-of-(\d).*?<b>(\d)</b>", found)
+        self.assertEqual([("0", "4"), ("1", "2"), ("2", "3"), ("0", "1")], marks)
+        self.assertEqual(("", 0), marks_at({}, 100))
+
+    def test_weeks(self) -> None:
+        """From a Friday on: three days, seven, and two; bars of -5, 10 and 0 trains, 15 high together."""
+        days = [date(2026, 6, 5) + timedelta(days=number) for number in range(12)]
+        series = Series([10] * 12, [10, 10, 5, 20, *[10] * 8])
+        weeks = weeks_of(series, days)
+        self.assertEqual(
+            [(0, 2, 30, 25), (3, 9, 70, 80), (10, 11, 20, 20)], [tuple(week) for week in weeks]
+        )
+        reach = Reach(10, 5)
+        self.assertEqual("M3.2,667V0h6.6V667z", bars_of_weeks(weeks, 1, reach))
+        self.assertEqual("M0.2,667V1000h2.6V667z", bars_of_weeks(weeks, -1, reach))
 
     def test_per_cent(self) -> None:
         wanted = {
