@@ -176,7 +176,7 @@ def check(counts: Counts, maker: Maker) -> None:
     [(keys,)] = sqlite_rows(
         path, "SELECT count(*) FROM sqlite_master WHERE sql LIKE '%FOREIGN KEY%'"
     )
-    counts.same("tables with foreign keys", "9", keys)
+    counts.same("tables with foreign keys", "10", keys)
     done = maker.run("--verbose", "-o", "made.db", "--force", *PUBLISHED)
     told = re.findall(r"^cif-sql: calls whose location has no TI: (.*)$", done.stderr, re.MULTILINE)
     counts.same("calls without a TI are counted", ["1 (PRST)"], told)
