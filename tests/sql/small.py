@@ -8,10 +8,13 @@ import random
 from collections import Counter
 from datetime import date
 from pathlib import Path
-from typing import Callable, Dict, Iterable, List, Sequence, Tuple
+from typing import Callable, Dict, Iterable, List, Optional, Sequence, Tuple
 
 from gtfs import generated
-from gtfs.checks import Counts, Source
+from gtfs.checks import Counts
+from gtfs.checks import Maker as FeedMaker
+from gtfs.checks import Source
+from gtfs.verified import OPTIONS
 
 from . import postgres
 from .checks import Maker, Query, same_rows, sqlite_rows
@@ -44,14 +47,14 @@ def riders_rows(expected: Expected, board: str, day: date, place: str) -> Counte
 
 def places_of(expected: Expected) -> Dict[str, str]:
     """Each code, and the TIPLOCs at which most trains call, with the column that has it. No place with
-    a space in it can be asked for."""
+    a space or a small letter in it can be asked for."""
     codes = {crs: "crs" for crs in expected.crs.values() if crs}
     found = Counter(row["location"] for row in expected.tables["public"] if row["location"])
     locations = [location for location, _ in found.most_common(MOST_PLACES)]
     return {
         place: column
         for place, column in (codes | dict.fromkeys(locations, "location")).items()
-        if " " not in place
+        if " " not in place and place == place.upper()
     }
 
 
@@ -70,7 +73,7 @@ def check_boards(
         got = rows(f"SELECT crs, {BOARD} FROM {board} WHERE date IN ({words})")
         for place, column in places_of(expected).items():
             here = Counter(row[1:] for row in got if place == row[0 if column == "crs" else 5])
-            want = sum((wanted[board, day, place] for day in dates), Counter())
+            want: Counter[SqlRow] = sum((wanted[board, day, place] for day in dates), Counter())
             same_rows(counts, f"{name}, {board} at {place} are those of cif", want, here.elements())
     return sum(found.total() for found in wanted.values())
 
@@ -115,20 +118,36 @@ def check_extract(
     return found
 
 
+def check_feed(counts: Counts, maker: FeedMaker, path: Path, options: Sequence[str]) -> None:
+    """The feed of an extract, if its trains give one."""
+    made = maker.folder / "small.zip"
+    done = maker.run("-o", made, *options, path)
+    if made.exists():
+        done = maker.run("--verify", made, *options, path)
+        said = done.stdout + done.stderr
+        counts.test(f"{path.name}, --verify of the feed", done.returncode == 0, said)
+        made.unlink()
+    else:
+        counts.same(f"{path.name} has no feed", 3, done.returncode)
+
+
 def check_seeds(
     counts: Counts,
     maker: Maker,
     seeds: Iterable[int],
     most: int,
     with_postgres: Callable[[int], bool],
+    feeds: Optional[FeedMaker] = None,
 ) -> None:
-    """An extract of each seed."""
+    """An extract of each seed, and also its feed where there is what makes feeds."""
     rows = rides = 0
     for seed in seeds:
         path = maker.folder / f"generated-{seed}.cif"
         path.write_bytes(generated.extract(random.Random(seed), SCHEDULES))
         found = check_extract(counts, maker, path, most, with_postgres(seed))
         rows, rides = rows + found[0], rides + found[1]
+        if feeds:
+            check_feed(counts, feeds, path, OPTIONS[seed % len(OPTIONS)])
         path.unlink()
     counts.test("boards have rows", rows > 0)
     counts.test("rides end in other trains", rides > 0)
