@@ -27,6 +27,31 @@ STPXBOX,,,,STP
 ECROYDN,East Croydon Station,50,-1,
 """
 STATIONS = ("--places", "parts.csv")
+# Two trains over midnight: N00001 goes on as N00002 on the next day, O00001 as O00002 in operation alone.
+LINKED = "".join(
+    line.ljust(80) + "\n"
+    for line in """\
+HDTPS.UTEST01.PD2601040401262130DFTEST1       FA050126110126
+TIALPHA  00890500AALPHA                     032010000ALPALPHA
+TIBETA   00890501BBETA                      032020000BETBETA
+TIGAMMA  00890502CGAMMA                     032030000GAMGAMMA
+AANN00001N000022601052601111111111NPNBETA     TP                               P
+AANO00001O000022601052601111111111NPSBETA     TO                               P
+BSNN000012601052601111111111 POO1N01    122104000 EMU    090      B            P
+LOALPHA   2330 23301         TB
+LTBETA    2355 23552     TF
+BSNN000022601052601111111111 POO1N02    122104000 EMU    090      B            P
+LOBETA    0005 00052         TB
+LTGAMMA   0030 00303     TF
+BSNO000012601052601111111111 POO1O01    122104000 EMU    090      B            P
+LOALPHA   1000 10001         TB
+LTBETA    1030 10302     TF
+BSNO000022601052601111111111 POO1O02    122104000 EMU    090      B            P
+LOBETA    1040 10402         TB
+LTGAMMA   1100 11003     TF
+ZZ
+""".splitlines()
+)
 # The calls of each trip.
 Calls = Set[Tuple[Tuple[str, ...], ...]]
 

@@ -19,7 +19,7 @@ from sql import by_hand, documents, failures, postgres, small, stations, verifie
 from sql.checks import Maker, check_database, sqlite_rows
 from sql.definition import Expected
 
-SCHEDULES = 1000
+SCHEDULES = 500
 SEED = 1
 
 

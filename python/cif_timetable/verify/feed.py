@@ -132,14 +132,14 @@ class Found:
 
     def days_later(self, whole: Whole) -> int:
         """How many days later than its service a train runs: one that is linked with a train of the
-        evening before may count to that date, with times from 24:00:00 on."""
+        evening before may count to that date, with its own times from 24:00:00 on."""
         known = self.wanted.get(whole.uid, {})
         if known.get((whole.about, whole.text), 0) & whole.dates == whole.dates:
             return 0
         is_linked = whole.uid in self.linked_uids or any(map(self.linked.__contains__, whole.trips))
         if not is_linked:
             return 0
-        if whole.text and all(row.split("\t")[2] >= "24" for row in whole.text.split("\n")):
+        if whole.text and any(row.split("\t")[2] >= "24" for row in whole.text.split("\n")):
             earlier = later_text(whole.text, -1)
             own_dates = whole.dates << 1
             if known.get((whole.about, earlier), 0) & own_dates == own_dates:
