@@ -186,6 +186,16 @@ PLANTED: Tuple[Tuple[str, str, Tuple[str, ...]], ...] = (
         ("`SN` is `Northern`",),
     ),
     (
+        "an operator lost",
+        "DELETE FROM operators WHERE operator = 'GX'",
+        ("table operators", "GX"),
+    ),
+    (
+        "an operator's name in their table",
+        "UPDATE operators SET operator_name = 'Northern' WHERE operator = 'SN'",
+        ("table operators", "operator_name is `Northern` and not `Southern`"),
+    ),
+    (
         "a station's name",
         "UPDATE stations SET name = 'London Victory' WHERE crs = 'VIC'",
         ("table stations", "London Victory"),

@@ -3,7 +3,8 @@ CREATE INDEX locations_crs ON locations (crs);
 CREATE INDEX locations_station ON locations (station_crs);
 CREATE INDEX stations_name ON stations (name);
 CREATE INDEX station_names_search ON station_names (search);
-CREATE INDEX calls_location ON calls (location);
+-- All calls at a place, by the time at which a train is there last.
+CREATE INDEX calls_location ON calls (location, coalesce(departure, pass, arrival));
 CREATE INDEX public_calls_location ON public_calls (location);
 -- The next departures of a station stand one after the other, and a board is in the index alone.
 CREATE INDEX public_calls_station ON public_calls (

@@ -449,6 +449,8 @@ def load_trains(
                 progress.show_share("loading trains", int(number), count)
     journeys.flush()
     schedules.schedules.flush()
+    operators = sorted(row for row in schedules.names_of.items() if row[0])
+    database.fill("operators", ("operator", "operator_name"), rows_of(operators))
     database.fill("portions", COLUMNS, rows_of(portions.rows()))
     names = "date operator passenger as_required trains".split()
     database.fill("trains_per_day", names, rows_of(trains_per_day(schedules.per_day)))

@@ -66,6 +66,12 @@ CREATE TABLE locations (
     FOREIGN KEY (station_crs) REFERENCES stations (crs)
 );
 
+-- A row for each operator of a schedule.
+CREATE TABLE operators (
+    operator text PRIMARY KEY,
+    operator_name text NOT NULL
+);
+
 -- A row for each list of calls and changes en route of a UID, and of where it is for riders. Several schedules can have it.
 CREATE TABLE journeys (
     id integer PRIMARY KEY,

@@ -63,6 +63,7 @@ SELECT
     coalesce(locations.name, public_calls.location) AS station,
     clock_days.date,
     public_calls.departure_time AS time,
+    public_calls.departure_seconds % 86400 AS seconds,
     clock_days.train_date,
     schedules.uid,
     schedules.identity,
@@ -102,6 +103,7 @@ SELECT
     substr(CAST(100 + public_calls.arrival_seconds % 86400 / 3600 AS text), 2) || ':' ||
         substr(CAST(100 + public_calls.arrival_seconds % 3600 / 60 AS text), 2) || ':' ||
         substr(CAST(100 + public_calls.arrival_seconds % 60 AS text), 2) AS time,
+    public_calls.arrival_seconds % 86400 AS seconds,
     clock_days.train_date,
     schedules.uid,
     schedules.identity,
@@ -244,8 +246,8 @@ SELECT
     other.uid AS portion,
     portions.portion_journey,
     portions.after_call,
-    other.riders_origin AS origin,
-    coalesce(starts.name, other.riders_origin) AS origin_name,
+    train.riders_origin AS origin,
+    coalesce(starts.name, train.riders_origin) AS origin_name,
     other.riders_destination AS destination,
     coalesce(ends.name, other.riders_destination) AS destination_name
 FROM portions
@@ -256,5 +258,5 @@ LEFT JOIN associations ON associations.id = portions.association
 LEFT JOIN schedules AS train ON train.id = portions.schedule
 LEFT JOIN schedules AS other ON other.id = portions.portion_schedule
 LEFT JOIN locations AS places ON places.tiploc = associations.location
-LEFT JOIN locations AS starts ON starts.tiploc = other.riders_origin
+LEFT JOIN locations AS starts ON starts.tiploc = train.riders_origin
 LEFT JOIN locations AS ends ON ends.tiploc = other.riders_destination;
