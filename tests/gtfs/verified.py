@@ -276,6 +276,20 @@ PLANTED: Tuple[Tuple[str, Edit, Tuple[str, ...]], ...] = (
     ),
     ("a stop lost", lost("stops", "HOVE/1"), ("HOVE/1",)),
     ("coordinates", changed("stops", ("HOVE/1",), "stop_lat", "50.8"), ("HOVE/1", "50.8")),
+    (
+        "the first date of the feed",
+        changed(
+            "feed_info", ("Made by cif-gtfs, publisher not named",), "feed_start_date", "20260518"
+        ),
+        ("feed_info.txt", "feed_start_date is `20260518` and not `20260517`"),
+    ),
+    (
+        "the last date of the feed",
+        changed(
+            "feed_info", ("Made by cif-gtfs, publisher not named",), "feed_end_date", "20260614"
+        ),
+        ("feed_info.txt", "feed_end_date is `20260614` and not `20260613`"),
+    ),
     ("an agency lost", lost("agency", "GX"), ("agency.txt", "GX")),
 )
 

@@ -292,6 +292,26 @@ VIEWS: Tuple[Tuple[str, str, str, Tuple[str, ...]], ...] = (
         ("associations_on on 2026-06-05",),
     ),
     (
+        "calls_on",
+        "view",
+        "SELECT date, uid, number, record, location, suffix, arrival, departure, pass, public_arrival, public_departure, '1' AS platform,"
+        " path, line, activities FROM old_calls_on",
+        ("calls_on on 2026-06-05", "platform is `1` and not"),
+    ),
+    (
+        "stops_of",
+        "view",
+        "SELECT * FROM old_stops_of WHERE get_on = 1",
+        ("stops_of on 2026-06-05", "and not `W20101|5|VICTRIC"),
+    ),
+    (
+        "stops_of",
+        "view after midnight",
+        "SELECT train_date, uid, number, location, platform, train_date AS arrival_date, arrival, departure_date, departure, set_down,"
+        " pick_up, get_off, get_on FROM old_stops_of",
+        ("stops_of on 2026-06-05", "arrival_date is `2026-06-05` and not `2026-06-06`"),
+    ),
+    (
         "departures",
         "view",
         "SELECT train_date AS date, * FROM old_departures",

@@ -8,6 +8,7 @@ from typing import NamedTuple
 
 from .._extract import Extract
 from .._progress import Progress
+from ..model import Header
 from ..places import PlaceRow
 from ..user_csv import Key
 from .difference import Different
@@ -302,6 +303,16 @@ def compare_stops(feed: Feed, stops: Stops) -> None:
                 raise Different(f"stops.txt, {stop}: its {name} is `{one}` and not `{other}`")
 
 
+def compare_spans(feed: Feed, header: Header) -> None:
+    """Compares the dates that the feed says it is for, if it says so."""
+    names = ("feed_start_date", "feed_end_date")
+    wanted = [f"{day:%Y%m%d}" for day in (header.first_date, header.last_date)]
+    for span in feed.spans:
+        for name, one, other in zip(names, span, wanted):
+            if one.strip() not in ("", other):
+                raise Different(f"feed_info.txt: {name} is `{one}` and not `{other}`")
+
+
 def left_out_lines(trains: Trains, links: Links) -> list[str]:
     """What the feed leaves out, counted, with one of each."""
     lines = []
@@ -356,6 +367,7 @@ def verify_feed(
     compare_trains(found.trains, wanted, window)
     compare_links(found.links(), links.dates, window)
     compare_stops(feed, stops)
+    compare_spans(feed, header)
     agencies = {trip.about.agency for trip in feed.trips.values()}
     for agency in sorted(agencies - feed.agencies):
         raise Different(f"agency.txt has no {agency}")
