@@ -207,8 +207,8 @@ def check_privileges(counts: Counts, maker: Maker, special: Path) -> None:
         'ALTER DEFAULT PRIVILEGES FOR ROLE "odd %s" IN SCHEMA cif GRANT USAGE ON TYPES TO PUBLIC',
     )
     before = rows_of(query)
-    # the schema, 27 tables and views, two columns, and two privileges by default
-    counts.same("privileges before", 32, len(before))
+    # the schema, 28 tables and views, two columns, and two privileges by default
+    counts.same("privileges before", 33, len(before))
     counts.same("a script where a role reads", (0, "", ""), ended(load(maker, special)))
     counts.same("privileges", before, rows_of(query))
     found = psql("-A", "-t", "-c", "SET ROLE reader; SELECT count(*) FROM cif.runs")
