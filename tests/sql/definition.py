@@ -4,7 +4,7 @@ from __future__ import annotations
 from collections import Counter, defaultdict
 from datetime import date, timedelta
 from functools import cached_property
-from typing import DefaultDict, Dict, Iterator, List, Optional, Tuple
+from typing import DefaultDict, Dict, List, Optional, Tuple
 
 from gtfs.checks import Source
 from gtfs.definition import Row, is_for_riders, seconds_of, table_rows
@@ -13,8 +13,6 @@ DAY = 86400
 # The form with the fewest rows of schedules.
 FORM = "3"
 TABLES = ("header", "tiplocs", "associations", "schedules", "calls", "changes", "public")
-# How many days after its base train an associated train runs, by the date indicator; of other ones riders are told nothing.
-DAYS_LATER = {"": 0, "S": 0, "N": 1, "P": -1}
 # The fields of `cif table` that have another name in the database.
 RENAMED = {"operator_code": "operator", "call": "number"}
 ASSOCIATION = {
@@ -202,72 +200,6 @@ class Expected:
             for number, row in self.schedules.items()
             for day in self.dates_of(row)
         }
-
-    def rides(self) -> Counter[SqlRow]:
-        """All rides without a change, date by date: by one train, and by an association from one to another."""
-        found: Counter[SqlRow] = Counter()
-        for (_, day), number in self.running.items():
-            found.update(self.rides_between((number, day, 999), (number, day, 0)))
-        for row in self.tables["associations"]:
-            later = DAYS_LATER.get(row["date_indicator"])
-            if later is None or row["association_type"] not in ("", "P") or not row["location"]:
-                continue
-            for day in self.dates_of(row):
-                other_day = day + timedelta(days=later)
-                base = self.running.get((row["base_uid"], day))
-                other = self.running.get((row["associated_uid"], other_day))
-                if base and other:
-                    found.update(self.rides_by(row, (base, day), (other, other_day)))
-        return found
-
-    def rides_by(
-        self, row: Row, base: Tuple[str, date], other: Tuple[str, date]
-    ) -> Iterator[SqlRow]:
-        """The rides from one train to another by an association, on their dates."""
-        place = row["location"], row["base_suffix"]
-        calls, others = (self.of_schedule["calls"][number] for number, _ in (base, other))
-        stops = [
-            int(call["call"])
-            for call in calls
-            if (call["location"], call["suffix"]) == place
-            and (call["arrival"] or call["departure"])
-        ]
-        if not stops:
-            return
-        if row["category"] == "JJ" and others[-1]["location"] == place[0]:
-            yield from self.rides_between((*other, 999), (*base, stops[0]))
-        divides = row["category"] == "VV"
-        goes_on = row["category"] == "NP" and calls[-1]["location"] == place[0]
-        if (divides or goes_on) and others[0]["location"] == place[0]:
-            yield from self.rides_between((*base, stops[0]), (*other, 1))
-
-    def rides_between(
-        self, start: Tuple[str, date, int], end: Tuple[str, date, int]
-    ) -> Iterator[SqlRow]:
-        """The rides on a train before a call and on another one, or the same, after one of its calls."""
-        (number, day, before), (other, other_day, after) = start, end
-        if not self.is_passenger(number):
-            return
-        for call in self.of_schedule["public"][number]:
-            if int(call["call"]) >= before or not self.riders(number, call)[1]:
-                continue
-            for reached in self.of_schedule["public"][other]:
-                later = int(call["call"]) if number == other and day == other_day else after
-                if int(reached["call"]) <= later or not self.riders(other, reached)[0]:
-                    continue
-                leaves, arrives = seconds_of(call["departure"]), seconds_of(reached["arrival"])
-                yield (
-                    self.crs.get(call["location"]),
-                    self.crs.get(reached["location"]),
-                    (day + timedelta(days=leaves // DAY)).isoformat(),
-                    clock(leaves),
-                    (other_day + timedelta(days=arrives // DAY)).isoformat(),
-                    clock(arrives),
-                    day.isoformat(),
-                    self.schedules[number]["uid"],
-                    self.schedules[other]["uid"] if other != number else None,
-                    call["call"],
-                )
 
     @cached_property
     def crs(self) -> Dict[str, Optional[str]]:

@@ -19,6 +19,7 @@ from gtfs.verified import OPTIONS
 from . import postgres
 from .checks import Maker, Query, same_rows, sqlite_rows
 from .definition import Expected, SqlRow, or_none
+from .rides import rides
 
 SCHEDULES = 60
 # So many TIPLOCs are asked for.
@@ -80,7 +81,7 @@ def check_boards(
 
 def check_rides(counts: Counts, name: str, expected: Expected, rows: Query) -> int:
     """All rides. Returns how many of them end in another train."""
-    wanted = expected.rides()
+    wanted = rides(expected)
     same_rows(counts, f"{name}, rides", wanted, rows(f"SELECT {RIDES} FROM rides"))
     return sum(count for row, count in wanted.items() if row[8])
 
@@ -140,17 +141,17 @@ def check_seeds(
     feeds: Optional[FeedMaker] = None,
 ) -> None:
     """An extract of each seed, and also its feed where there is what makes feeds."""
-    rows = rides = 0
+    rows = ends = 0
     for seed in seeds:
         path = maker.folder / f"generated-{seed}.cif"
         path.write_bytes(generated.extract(random.Random(seed), SCHEDULES))
         found = check_extract(counts, maker, path, most, with_postgres(seed))
-        rows, rides = rows + found[0], rides + found[1]
+        rows, ends = rows + found[0], ends + found[1]
         if feeds:
             check_feed(counts, feeds, path, OPTIONS[seed % len(OPTIONS)])
         path.unlink()
     counts.test("boards have rows", rows > 0)
-    counts.test("rides end in other trains", rides > 0)
+    counts.test("rides end in other trains", ends > 0)
 
 
 def check(counts: Counts, maker: Maker) -> None:
