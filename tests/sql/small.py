@@ -14,6 +14,7 @@ from gtfs import generated
 from gtfs.checks import Counts
 from gtfs.checks import Maker as FeedMaker
 from gtfs.checks import Source
+from gtfs.stations import EXAMPLE, FEEDS
 from gtfs.verified import OPTIONS
 
 from . import postgres
@@ -155,6 +156,8 @@ def check_seeds(
 
 
 def check(counts: Counts, maker: Maker) -> None:
-    """A few in the suite; run_many takes more."""
+    """The example, samples, and a few in the suite; run_small takes more."""
     has_postgres = "PGHOST" in os.environ
-    check_seeds(counts, maker, (2, 3, 5), 3, lambda seed: has_postgres and seed == 2)
+    for path in EXAMPLE, *sorted((FEEDS / "probes").glob("*.cif")):
+        check_extract(counts, maker, path, 4, has_postgres)
+    check_seeds(counts, maker, (2, 3), 2, lambda seed: has_postgres and seed == 2)
