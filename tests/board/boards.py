@@ -205,6 +205,35 @@ def check_rides(counts: Counts, made: Made) -> None:
     counts.test("ECR BTN, over midnight", "Sat 6 June</span>" in text and "48 min" in text, text)
 
 
+# Where trains go, or come from, on Friday 5 June, and what the page says of portions: the address, and the texts of its rows.
+PORTIONS: List[Tuple[str, List[str]]] = [
+    (
+        "/station/VIC/2026-06-05",
+        ["Eastbourne and Littlehampton divides at Haywards Heath", "Gatwick Airport", "Brighton"],
+    ),
+    ("/station/HHE/2026-06-05?from=10:00", ["Eastbourne", "Littlehampton"]),
+    ("/station/LIT/2026-06-05", ["Haywards Heath goes on to London Victoria"]),
+    ("/station/LIT/2026-06-05?show=arrivals", ["Haywards Heath has come from London Victoria"]),
+    (
+        "/station/VIC/2026-06-05?show=arrivals",
+        ["Brighton", "Eastbourne and Littlehampton joined at Haywards Heath"],
+    ),
+    ("/station/HHE/2026-06-05?show=arrivals&from=18:00", ["Eastbourne", "Littlehampton"]),
+]
+
+
+def check_portions(counts: Counts, made: Made) -> None:
+    """Both ends of trains that divide, and of those that two have joined."""
+    board = made.examples
+    for address, wanted in PORTIONS:
+        kind = "arrivals" if "arrivals" in address else "departures"
+        rows = board.page(address).tables[f"board {kind}"][1:]
+        counts.same(f"portions, {address}", wanted, [squeezed(row[1].text) for row in rows])
+    rows_of = board.data("/station/VIC/2026-06-05.json")["departures"]
+    found = [[portion["portion"] for portion in row["portions"]] for row in rows_of]
+    counts.same("portions as JSON", [["W20114"], [], []], found)
+
+
 # What is odd about a call, in a row of a board of the extract by hand: the address, the train, and what its row says.
 MARKS = [
     ("/station/ALP/2026-01-06", "Q00001", ["runs as required"]),
@@ -297,6 +326,7 @@ def check(counts: Counts, made: Made) -> None:
     counts.same("a TIPLOC alone", ["N00001"], [row["uid"] for row in tiploc["departures"]])
     counts.same("a TIPLOC, its code", (None, "ALPHAE"), (tiploc["station_crs"], tiploc["location"]))
     check_rides(counts, made)
+    check_portions(counts, made)
     check_marks(counts, made)
     check_many(counts, made)
     counts.test(

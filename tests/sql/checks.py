@@ -112,6 +112,10 @@ def check_fields(counts: Counts, name: str, expected: Expected, rows: Query) -> 
         "WHERE journeys.uid <> schedules.uid"
     )
     counts.same(f"{name}, journeys of another train", [], wrong)
+    operators: Counter[SqlRow] = Counter(
+        {(row["operator_code"],): 1 for row in expected.tables["schedules"] if row["operator_code"]}
+    )
+    same_rows(counts, f"{name}, operators", operators, rows("SELECT operator FROM operators"))
     query = "SELECT uid, first_date, passenger, as_required FROM schedules"
     same_rows(counts, f"{name}, sorts of schedules", expected.sorts_of_schedules(), rows(query))
     query = "SELECT schedules.uid, schedules.first_date, number, get_off, get_on, public_calls.passenger FROM schedules "

@@ -193,6 +193,19 @@ class Expected:
         return Counter((*key, str(count)) for key, count in found.items())
 
     @cached_property
+    def running(self) -> Dict[Tuple[str, date], str]:
+        """The schedule of each train on each date."""
+        return {
+            (row["uid"], day): number
+            for number, row in self.schedules.items()
+            for day in self.dates_of(row)
+        }
+
+    @cached_property
+    def crs(self) -> Dict[str, Optional[str]]:
+        return {row["tiploc"]: or_none(row["crs_code"]) for row in self.tables["tiplocs"]}
+
+    @cached_property
     def departures(self) -> Counter[SqlRow]:
         return self.board("departure")
 
@@ -202,7 +215,7 @@ class Expected:
 
     def board(self, time: str) -> Counter[SqlRow]:
         """All departures, or arrivals, by the clock."""
-        crs = {row["tiploc"]: or_none(row["crs_code"]) for row in self.tables["tiplocs"]}
+        crs = self.crs
         found: Counter[SqlRow] = Counter()
         for number, row in self.schedules.items():
             if not self.is_passenger(number):

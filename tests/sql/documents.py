@@ -70,6 +70,8 @@ SCAN = r"SCAN (?!\(|CONSTANT)"
 SORT = r"TEMP B-TREE"
 NEXT_TEN = "SELECT time, identity, platform, destination_name FROM departures WHERE station_crs = 'HHE' AND date = '2026-01-06' "
 NEXT_TEN += "AND time >= '12:00' ORDER BY time LIMIT 10"
+RIDES = "SELECT departure, arrival, identity, portion FROM rides WHERE from_crs = 'HHE' AND to_crs = 'VIC' AND date = '2026-01-06' "
+RIDES += "ORDER BY departure"
 HUB_QUESTIONS = (
     (
         "SELECT time, identity, platform, destination_name, pick_up, number FROM departures"
@@ -87,14 +89,15 @@ HUB_QUESTIONS = (
     ),
     (NEXT_TEN, 10, (BOARD[0] + " AND departure_time>", BOARD[1]), (SCAN, SORT)),
     (
-        "SELECT departure, arrival, identity, portion FROM rides"
-        " WHERE from_crs = 'HHE' AND to_crs = 'VIC' AND date = '2026-01-06' ORDER BY departure",
+        RIDES,
         HUB_TRAINS,
         (
             "SEARCH boarded USING COVERING INDEX public_calls_station",
+            r"SEARCH reached USING INDEX public_calls_journey \(station_crs=\? AND journey=\?",
+            "SEARCH portions USING INDEX portions_journey",
             "SEARCH applied USING COVERING INDEX schedules_journey",
         ),
-        (),
+        (SCAN,),
     ),
     (
         "SELECT uid FROM runs WHERE date = '2026-01-06'",
@@ -152,6 +155,7 @@ def check_plans(counts: Counts, maker: Maker, path: Path) -> None:
 ONLY_INDEXES = (
     (NEXT_TEN, ("public_calls_station", "schedules_journey")),
     ("SELECT count(*) FROM runs WHERE date = '2026-01-06'", ("schedules_dates",)),
+    (RIDES, ("public_calls_station", "schedules_journey")),
 )
 
 

@@ -207,8 +207,8 @@ def check_privileges(counts: Counts, maker: Maker, special: Path) -> None:
         'ALTER DEFAULT PRIVILEGES FOR ROLE "odd %s" IN SCHEMA cif GRANT USAGE ON TYPES TO PUBLIC',
     )
     before = rows_of(query)
-    # the schema, 25 tables and views, two columns, and two privileges by default
-    counts.same("privileges before", 30, len(before))
+    # the schema, 28 tables and views, two columns, and two privileges by default
+    counts.same("privileges before", 33, len(before))
     counts.same("a script where a role reads", (0, "", ""), ended(load(maker, special)))
     counts.same("privileges", before, rows_of(query))
     found = psql("-A", "-t", "-c", "SET ROLE reader; SELECT count(*) FROM cif.runs")
@@ -272,7 +272,7 @@ def check_stations(counts: Counts, maker: Maker) -> None:
         counts.same(f"{name} for psql", (0, "", ""), ended(done))
         by_hand.check_queries(counts, queries, rows_of, f"{name} in PostgreSQL")
     query = "SELECT count(*) FROM pg_constraint WHERE contype = 'f' AND connamespace = 'cif'::regnamespace"
-    counts.same("foreign keys in PostgreSQL", [("10",)], rows_of(query))
+    counts.same("foreign keys in PostgreSQL", [("15",)], rows_of(query))
 
 
 def check(counts: Counts, maker: Maker, special: Path, blank: Path) -> None:

@@ -6,9 +6,9 @@ from functools import partial
 from typing import Dict, List, Tuple
 
 from gtfs.checks import Counts, Word
-from gtfs.stations import FEEDS, PARTS, PUBLISHED, published_train
+from gtfs.stations import FEEDS, LINKED, PARTS, PUBLISHED, published_train
 
-from .by_hand import Queries, check_queries, text_of
+from .by_hand import Queries, check_queries
 from .checks import Maker, sqlite_rows
 from .definition import SqlRow
 
@@ -122,30 +122,6 @@ OF_PROBES: Dict[str, Queries] = {
         ),
     },
 }
-# Two trains over midnight: N00001 goes on as N00002 on the next day, O00001 as O00002 in operation alone.
-LINKED = text_of(
-    """
-HDTPS.UTEST01.PD2601040401262130DFTEST1       FA050126110126
-TIALPHA  00890500AALPHA                     032010000ALPALPHA
-TIBETA   00890501BBETA                      032020000BETBETA
-TIGAMMA  00890502CGAMMA                     032030000GAMGAMMA
-AANN00001N000022601052601111111111NPNBETA     TP                               P
-AANO00001O000022601052601111111111NPSBETA     TO                               P
-BSNN000012601052601111111111 POO1N01    122104000 EMU    090      B            P
-LOALPHA   2330 23301         TB
-LTBETA    2355 23552     TF
-BSNN000022601052601111111111 POO1N02    122104000 EMU    090      B            P
-LOBETA    0005 00052         TB
-LTGAMMA   0030 00303     TF
-BSNO000012601052601111111111 POO1O01    122104000 EMU    090      B            P
-LOALPHA   1000 10001         TB
-LTBETA    1030 10302     TF
-BSNO000022601052601111111111 POO1O02    122104000 EMU    090      B            P
-LOBETA    1040 10402         TB
-LTGAMMA   1100 11003     TF
-ZZ
-"""
-)
 LINKED_QUERIES: Queries = {
     "rides over midnight": (
         "SELECT date, departure, arrival_date, arrival, uid, portion FROM rides"
@@ -176,7 +152,7 @@ def check(counts: Counts, maker: Maker) -> None:
     [(keys,)] = sqlite_rows(
         path, "SELECT count(*) FROM sqlite_master WHERE sql LIKE '%FOREIGN KEY%'"
     )
-    counts.same("tables with foreign keys", "9", keys)
+    counts.same("tables with foreign keys", "10", keys)
     done = maker.run("--verbose", "-o", "made.db", "--force", *PUBLISHED)
     told = re.findall(r"^cif-sql: calls whose location has no TI: (.*)$", done.stderr, re.MULTILINE)
     counts.same("calls without a TI are counted", ["1 (PRST)"], told)

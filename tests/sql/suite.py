@@ -15,11 +15,11 @@ sys.path[:1] = [str(HERE.parent), str(TOP / "python")]
 
 from gtfs import generated
 from gtfs.checks import Counts, Source
-from sql import by_hand, documents, failures, postgres, stations, verified, words
+from sql import by_hand, documents, failures, postgres, small, stations, verified, words
 from sql.checks import Maker, check_database, sqlite_rows
 from sql.definition import Expected
 
-SCHEDULES = 1000
+SCHEDULES = 500
 SEED = 1
 
 
@@ -47,6 +47,7 @@ def main() -> int:
         documents.check_hub(counts, maker)
         failures.check(counts, maker, special)
         verified.check(counts, maker)
+        small.check(counts, maker)
         words.check(counts)
     skipped = "" if "PGHOST" in os.environ else ", 1 skipped"
     print(f"{counts.passed} passed, {counts.failed} failed{skipped}")

@@ -3,6 +3,7 @@ there is told what is wanted."""
 from __future__ import annotations
 
 import re
+from collections import defaultdict
 from collections.abc import Callable, Mapping
 from dataclasses import dataclass
 from datetime import date, timedelta
@@ -187,11 +188,18 @@ class Hours:
             "last_time": f"{clock_of(self.last)}:00",
             "first_seconds": self.first * 60,
             "last_seconds": self.last * 60,
+            "first_working": working_of(self.first),
+            "last_working": working_of(self.last),
         }
 
 
 def clock_of(minute: int) -> str:
     return f"{minute // 60:02}:{minute % 60:02}"
+
+
+def working_of(minute: int) -> str:
+    """A minute as a working time."""
+    return f"{minute // 60:02}{minute % 60:02}"
 
 
 def hours_in(arguments: Arguments) -> Hours:
@@ -237,6 +245,8 @@ def station(asked: Asked, place: str, day: str) -> Page:
     rows, until = calls_of(
         timetable, kind, found, day, hours, None if asked.by_program else MOST_ROWS
     )
+    if kind != "calls":
+        add_portions(timetable, rows, is_boarded=kind == "departures")
     before, after = neighbours(timetable, day, hours)
     if until:
         after = {"date": day, "from": until}
@@ -267,19 +277,34 @@ def station(asked: Asked, place: str, day: str) -> Page:
     return Page("station", values, data)
 
 
+def found_in(
+    timetable: Timetable, kind: str, place: Place, day: str, hours: Hours, most: int | None
+) -> list[Row]:
+    """The rows of a board in these hours; of more than so many, the first ones."""
+    values: Row = {"date": day, **hours.parameters()}
+    if kind != "calls":
+        column = "station_crs" if place.station_crs else "location"
+        limit = -1 if most is None else most + 1
+        return timetable.board(kind, column, place.code, most=limit, **values)
+    codes = {"station_crs": place.station_crs, "location": place.location}
+    if most is None:
+        return timetable.rows("calls", **codes, **values)
+    rows: list[Row] = []
+    # what isn't shown isn't asked for
+    for start in range(hours.first, hours.last, HOURS * 60):
+        values.update(Hours(start).parameters() if hours.start is None else {})
+        rows += timetable.rows("calls", **codes, **values)
+        if len(rows) > most:
+            break
+    return rows
+
+
 def calls_of(
     timetable: Timetable, kind: str, place: Place, day: str, hours: Hours, most: int | None
 ) -> tuple[list[Row], str | None]:
     """The rows of a board, and the time at which it ends before its hours do: then it has about as
     many rows as it may have, and none of the minute after them."""
-    values: Row = {"date": day, **hours.parameters()}
-    limit = -1 if most is None else most + 1
-    if kind == "calls":
-        codes = {"station_crs": place.station_crs, "location": place.location}
-        rows = timetable.rows("calls", **codes, **values)
-    else:
-        column = "station_crs" if place.station_crs else "location"
-        rows = timetable.board(kind, column, place.code, most=limit, **values)
+    rows = found_in(timetable, kind, place, day, hours, most)
     rows.sort(key=lambda row: (row["time"], row["uid"], row["train_date"], row["number"]))
     if most is None or len(rows) <= most:
         return rows, None
@@ -289,6 +314,23 @@ def calls_of(
         return kept, end
     # so many leave in one minute that they are shown all the same
     return calls_of(timetable, kind, place, day, hours, None)
+
+
+def add_portions(timetable: Timetable, rows: list[Row], is_boarded: bool) -> None:
+    """Adds to each row of a board the portions that its riders reach, or have come from."""
+    found: defaultdict[tuple[int, str], list[Row]] = defaultdict(list)
+    for portion in timetable.portions(rows, is_boarded):
+        found[portion.pop("of_journey"), portion.pop("of_date")].append(portion)
+    for row in rows:
+        row["portions"] = [
+            portion
+            for portion in found.get((row["journey"], row["train_date"]), ())
+            if (
+                portion["before_call"] > row["number"]
+                if is_boarded
+                else portion["after_call"] < row["number"]
+            )
+        ]
 
 
 def parts_of(rows: list[Row]) -> list[list[Row]]:

@@ -1,6 +1,7 @@
 """The questions to the database, which are files of SQL beside this one."""
 from __future__ import annotations
 
+import json
 import sqlite3
 from collections.abc import Iterator
 from contextlib import closing, contextmanager
@@ -16,8 +17,10 @@ HERE = Path(__file__).resolve().parent / "sql"
 APPLICATION = 0x63696631
 # What is read of a database at first: one that lacks any of it is of another release.
 LAYOUT = (
-    "SELECT station_crs, train_date, as_required FROM departures LIMIT 0",
+    "SELECT station_crs, train_date, as_required, seconds FROM departures LIMIT 0",
     "SELECT from_crs, portion FROM rides LIMIT 0",
+    "SELECT train_date, portion, before_call FROM portions_on LIMIT 0",
+    "SELECT operator, operator_name FROM operators LIMIT 0",
     "SELECT get_on, get_off FROM public_calls LIMIT 0",
     "SELECT stp_indicator, wins_from FROM published LIMIT 0",
     "SELECT station_crs, search FROM station_names LIMIT 0",
@@ -58,8 +61,20 @@ class Timetable:
         """Rows of one of the views `departures` and `arrivals`, in which `place`, `station_crs` or
         `location`, is this code."""
         query = statement("board").replace("@BOARD@", view).replace("@PLACE@", place)
+        query = query.replace("@TIME@", "time" if view == "departures" else "seconds")
         parameters: Row = {"place": code, **values}
         found = self.connection.execute(query, parameters)
+        return [dict(row) for row in found]
+
+    def portions(self, rows: list[Row], is_boarded: bool) -> list[Row]:
+        """The portions that riders of these trains reach, or those that they have come from."""
+        query = statement("portions").replace(
+            "@JOURNEY@", "journey" if is_boarded else "portion_journey"
+        )
+        query = query.replace("@DATE@", "train_date" if is_boarded else "portion_date")
+        journeys = json.dumps(sorted({row["journey"] for row in rows}))
+        dates = json.dumps(sorted({row["train_date"] for row in rows}))
+        found = self.connection.execute(query, {"journeys": journeys, "dates": dates})
         return [dict(row) for row in found]
 
     @cached_property

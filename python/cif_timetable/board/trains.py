@@ -12,7 +12,7 @@ from . import words
 from .queries import Row, Timetable
 
 # What a version doesn't depend on: the record that it comes of, and what is said of its places.
-NOT_OF_VERSION = set("id date first_date last_date days_run journey linked".split())
+NOT_OF_VERSION = set("id date first_date last_date days_run journey".split())
 # The fields of a schedule by which versions are told apart in words.
 FIELDS = {
     "identity": "train identity",
@@ -258,4 +258,8 @@ def train_values(timetable: Timetable, uid: str, day: str) -> tuple[dict[str, An
 def facts_of(row: Row) -> list[tuple[str, str]]:
     """What else a schedule says, in the order of its record, of fields that have a value."""
     shown = {name: label for name, label in FIELDS.items() if name not in ("identity", "operator")}
-    return [(label[0].upper() + label[1:], row[name]) for name, label in shown.items() if row[name]]
+    return [
+        (label[0].upper() + label[1:], words.meaning(name, row[name]))
+        for name, label in shown.items()
+        if row[name]
+    ]

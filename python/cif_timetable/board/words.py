@@ -43,6 +43,37 @@ ACTIVITIES = {
     "W": "stops for watering",
     "X": "passes another train on a single line",
 }
+# What codes of a train mean, of those that riders meet, from the specification, from memory.
+MEANINGS = {
+    "category": {
+        "BR": "replacement bus",
+        "BS": "bus",
+        "EE": "empty train",
+        "OL": "London Underground or metro",
+        "OO": "ordinary passenger",
+        "OU": "ordinary passenger, not advertised",
+        "SS": "ship",
+        "XC": "Channel Tunnel",
+        "XI": "international",
+        "XR": "motorail",
+        "XU": "express, not advertised",
+        "XX": "express passenger",
+        "XZ": "sleeper",
+    },
+    "status": {
+        "1": "passenger, short term",
+        "2": "freight, short term",
+        "3": "trip, short term",
+        "4": "ship, short term",
+        "5": "bus, short term",
+        "B": "bus",
+        "F": "freight",
+        "P": "passenger",
+        "S": "ship",
+        "T": "trip",
+    },
+    "class": {"B": "first and standard", "S": "standard only"},
+}
 # What a status says that isn't a train of passengers.
 SORTS = {"B": "bus", "5": "bus", "S": "ship", "4": "ship"}
 # What an association of a category means for its base train, and for the other one.
@@ -112,6 +143,11 @@ def minutes(allowance: str | None) -> str:
     return allowance.replace("H", "½") if allowance != "H" else "½"
 
 
+def meaning(name: str, code: str) -> str:
+    """`XX, express passenger`, or the code alone where no meaning is known."""
+    return ", ".join(filter(None, (code, MEANINGS.get(name, {}).get(code.strip()))))
+
+
 def weekdays(dates: Iterable[str]) -> str:
     """`Mondays to Fridays`, `Saturdays`, `Mondays, Wednesdays`."""
     found = sorted({date.fromisoformat(each).weekday() for each in dates})
@@ -144,9 +180,38 @@ def plural(count: int, one: str) -> str:
     return f"{count:,} {one}{'s' * (count != 1)}"
 
 
+def ends(row: Row, show: str) -> str:
+    """Where a train of a board goes, or comes from: of one that divides both ends, and of one that two
+    have joined."""
+    end, category = ("destination_name", "VV") if show == "departures" else ("origin_name", "JJ")
+    others = (each[end] for each in row["portions"] if each["category"] == category)
+    return joined_by_and(list(dict.fromkeys(filter(None, (row[end], *others)))))
+
+
+def joined_by_and(names: Sequence[str]) -> str:
+    """`a`, `a and b`, `a, b and c`."""
+    return " and ".join(filter(None, [", ".join(names[:-1]), *names[-1:]]))
+
+
+def portion_marks(row: Row, show: str) -> list[str]:
+    """What a train does on the way, or has done, with others: each once."""
+    found = []
+    for each in row["portions"]:
+        place, category = each["location_name"], each["category"]
+        if show == "departures" and category == "VV":
+            found.append(f"divides at {place}")
+        elif show == "departures" and each["destination_name"]:
+            found.append(f"goes on to {each['destination_name']}")
+        elif show == "arrivals" and category == "JJ":
+            found.append(f"joined at {place}")
+        elif show == "arrivals":
+            found.append(f"has come from {each['origin_name']}")
+    return list(dict.fromkeys(found))
+
+
 def marks(row: Row, show: str) -> list[str]:
     """What is odd about a call of a board."""
-    found = []
+    found = portion_marks(row, show) if "portions" in row else []
     if row["train_date"] != row["date"]:
         found.append(f"train of {short_day(row['train_date'])}")
     if row["as_required"]:
@@ -169,6 +234,7 @@ FILTERS: dict[str, Callable[..., str | Collection[str]]] = {
     "association": association,
     "clock": clock,
     "day": day,
+    "ends": ends,
     "marks": marks,
     "minutes": minutes,
     "month": month,

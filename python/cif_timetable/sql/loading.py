@@ -3,7 +3,7 @@ from __future__ import annotations
 
 import re
 from collections import Counter
-from collections.abc import Callable, Collection, Iterable, Iterator, Mapping
+from collections.abc import Callable, Iterable, Iterator, Mapping
 from contextlib import ExitStack
 from dataclasses import astuple
 from datetime import timedelta
@@ -22,20 +22,15 @@ from ..operators import OperatorRow, operator_name
 from ..places import PlaceRow, Places, search_text
 from ..riders import Sort, at_arrival, at_departure, sort_of
 from ..user_csv import Key
+from .portions import COLUMNS, DAYS_LATER, Portions
 from .schema import Database, Filler, Row, moment_of, rows_of
 
 # How `cif` says that nobody gets on or off at a call.
 NEVER = b"1"
 # A train has calls after at most so many midnights: each date of the window has a row for each of them. Real trains have two.
 MOST_MIDNIGHTS = 31
-
-
 # So many locations without a TI are named.
 MOST_PLACES = 10
-# The types of associations that riders are told of.
-FOR_PASSENGERS = (None, "P")
-# How many days after the base train the associated one runs, by the date indicator.
-DAYS_LATER = {"S": 0, "N": 1, "P": -1}
 
 
 class Source(NamedTuple):
@@ -348,7 +343,7 @@ class Journeys:
 NAMES = {"operator_code": "operator", "schedule": "journey", "call": "number"}
 # What `schedules` has besides the fields of the table.
 FURTHER = (
-    "operator_name passenger as_required linked journey origin departure destination arrival riders_origin"
+    "operator_name passenger as_required journey origin departure destination arrival riders_origin"
     " riders_destination".split()
 )
 # The characteristics of a train that may run and needn't: as required, or as required to terminals.
@@ -374,10 +369,8 @@ class Schedules:
         window: Window,
         given: UserFiles,
         names: list[str],
-        linked: Collection[str],
     ) -> None:
         self.given = given
-        self.linked = linked
         self.per_day: TrainsPerDay[Counted] = TrainsPerDay(window)
         self.days_run: set[str] = set()
         self.names_of: dict[str, str] = {"": ""}
@@ -393,8 +386,7 @@ class Schedules:
         operator, characteristics, first, last, days_run = self.key(cells)
         as_required = int(bool(AS_REQUIRED & set(characteristics)))
         counted = (operator, journey.passenger, as_required)
-        linked = int(cells[1] in self.linked)
-        further = (self.operator_name(operator), *counted[1:], linked, journey.number, journey.ends)
+        further = (self.operator_name(operator), *counted[1:], journey.number, journey.ends)
         row = "\t".join((line, *map(str, further)))
         self.schedules.add(f"{row}\n".encode())
         self.days_run.add(days_run)
@@ -428,20 +420,21 @@ def load_trains(
     extract: Extract,
     given: UserFiles,
     places: Places,
-    linked: Collection[str],
+    associations: list[Association],
     progress: Progress,
 ) -> LoadedTrains:
-    """Loads the schedules of an extract and their journeys. Some UIDs are linked by associations."""
+    """Loads the schedules of an extract, their journeys, and which portions riders reach."""
     with ExitStack() as stack:
         spooled_schedules = spooled(extract, "schedules", stack)
         changes = spooled(extract, "changes", stack)
         public = spooled(extract, "public", stack)
         count = sum(1 for _ in spooled_schedules.table().lines)
         names = spooled_schedules.names
-        schedules = Schedules(database, window, given, names, linked)
+        schedules = Schedules(database, window, given, names)
         sort_at = itemgetter(names.index("status"), names.index("category"))
         with extract.table("calls") as calls:
             journeys = Journeys(database, places, calls.names, public.names, changes.names)
+            portions = Portions(window, associations, calls.names[1:])
             riders, en_route = Follower(public.table()), Follower(changes.table())
             rows = spooled_schedules.table().lines
             for row, (number, text) in zip(rows, calls_by_schedule(calls)):
@@ -450,10 +443,15 @@ def load_trains(
                 line = row.decode().rstrip("\n")
                 cells = line.split("\t")
                 parts = numbered(number, text), riders.take(number), en_route.take(number)
-                schedules.add(line, cells, journeys.journey(cells[1], sort_at(cells), *parts))
+                journey = journeys.journey(cells[1], sort_at(cells), *parts)
+                schedules.add(line, cells, journey)
+                portions.add(cells, journey.number, bool(journey.passenger), parts[0])
                 progress.show_share("loading trains", int(number), count)
     journeys.flush()
     schedules.schedules.flush()
+    operators = sorted(row for row in schedules.names_of.items() if row[0])
+    database.fill("operators", ("operator", "operator_name"), rows_of(operators))
+    database.fill("portions", COLUMNS, rows_of(portions.rows()))
     names = "date operator passenger as_required trains".split()
     database.fill("trains_per_day", names, rows_of(trains_per_day(schedules.per_day)))
     return LoadedTrains(journeys.midnights, schedules.days_run, journeys.unknown())
@@ -495,13 +493,7 @@ def load(
     load_places(database, tiplocs, places)
     associations = extract.rows("associations", Association)
     fill_in_order(database, "associations", Association, associations)
-    linked = {
-        uid
-        for association in associations
-        if association.association_type in FOR_PASSENGERS
-        for uid in (association.base_uid, association.associated_uid)
-    }
-    trains = load_trains(database, window, extract, given, places, linked, progress)
+    trains = load_trains(database, window, extract, given, places, associations, progress)
     load_published(database, extract)
     load_dates(database, window, trains.midnights)
     of_associations = {association.days_run for association in associations}

@@ -66,6 +66,12 @@ CREATE TABLE locations (
     FOREIGN KEY (station_crs) REFERENCES stations (crs)
 );
 
+-- A row for each operator of a schedule.
+CREATE TABLE operators (
+    operator text PRIMARY KEY,
+    operator_name text NOT NULL
+);
+
 -- A row for each list of calls and changes en route of a UID, and of where it is for riders. Several schedules can have it.
 CREATE TABLE journeys (
     id integer PRIMARY KEY,
@@ -145,9 +151,9 @@ CREATE TABLE changes (
 );
 
 -- A train runs from first_date to last_date, on the weekdays of days_run, from Monday to Sunday. `passenger` is 1 if riders may get
--- on or off at two of its calls or more, or else 0. `as_required` is 1 if it may run, and needn't, and `linked` if an association for
--- passengers names its UID. The ends are those of all calls, with their working times; riders' ends are the first public call that
--- isn't for setting down alone, and the last that isn't for picking up alone.
+-- on or off at two of its calls or more, or else 0. `as_required` is 1 if it may run, and needn't. The ends are those of all calls,
+-- with their working times; riders' ends are the first public call that isn't for setting down alone, and the last that isn't for
+-- picking up alone.
 CREATE TABLE schedules (
     id integer PRIMARY KEY,
     uid text NOT NULL,
@@ -181,7 +187,6 @@ CREATE TABLE schedules (
     operator_name text,
     passenger integer NOT NULL,
     as_required integer NOT NULL,
-    linked integer NOT NULL,
     journey integer NOT NULL,
     origin text,
     departure text,
@@ -207,6 +212,28 @@ CREATE TABLE associations (
     associated_suffix text,
     diagram_type text,
     association_type text
+);
+
+-- Which trains riders reach in their seats, by an association: who boards the schedule before a call gets off the portion after one of
+-- its own. The dates are those of the train that is boarded; the portion runs on the same date (S), the day after (N) or the day before
+-- (P).
+CREATE TABLE portions (
+    association integer NOT NULL,
+    schedule integer NOT NULL,
+    journey integer NOT NULL,
+    before_call integer NOT NULL,
+    portion_schedule integer NOT NULL,
+    portion_journey integer NOT NULL,
+    after_call integer NOT NULL,
+    first_date date NOT NULL,
+    last_date date NOT NULL,
+    days_run text NOT NULL,
+    date_indicator text NOT NULL,
+    FOREIGN KEY (association) REFERENCES associations (id),
+    FOREIGN KEY (schedule) REFERENCES schedules (id),
+    FOREIGN KEY (journey) REFERENCES journeys (id),
+    FOREIGN KEY (portion_schedule) REFERENCES schedules (id),
+    FOREIGN KEY (portion_journey) REFERENCES journeys (id)
 );
 
 -- The published schedules that decide what runs, or that nothing does (stp_indicator C), of a published extract: by uid, first_date and

@@ -63,6 +63,7 @@ SELECT
     coalesce(locations.name, public_calls.location) AS station,
     clock_days.date,
     public_calls.departure_time AS time,
+    public_calls.departure_seconds % 86400 AS seconds,
     clock_days.train_date,
     schedules.uid,
     schedules.identity,
@@ -102,6 +103,7 @@ SELECT
     substr(CAST(100 + public_calls.arrival_seconds % 86400 / 3600 AS text), 2) || ':' ||
         substr(CAST(100 + public_calls.arrival_seconds % 3600 / 60 AS text), 2) || ':' ||
         substr(CAST(100 + public_calls.arrival_seconds % 60 AS text), 2) AS time,
+    public_calls.arrival_seconds % 86400 AS seconds,
     clock_days.train_date,
     schedules.uid,
     schedules.identity,
@@ -217,88 +219,44 @@ SELECT
     boarded.journey,
     boarded.number
 FROM public_calls AS boarded
-JOIN schedules AS applied ON applied.journey = boarded.journey
+JOIN portions ON portions.journey = boarded.journey AND portions.before_call > boarded.number
+JOIN public_calls AS reached ON reached.journey = portions.portion_journey AND reached.number > portions.after_call
 JOIN clock_days ON clock_days.midnights = boarded.departure_seconds / 86400
-    AND clock_days.train_date BETWEEN applied.first_date AND applied.last_date
-    AND substr(applied.days_run, clock_days.weekday, 1) > '0'
-JOIN associations ON associations.base_uid = applied.uid
-    AND associations.category IN ('VV', 'NP')
-    AND coalesce(associations.association_type, 'P') = 'P'
-    AND clock_days.train_date BETWEEN associations.first_date AND associations.last_date
-    AND substr(associations.days_run, clock_days.weekday, 1) > '0'
-JOIN associated_days ON associated_days.date = clock_days.train_date
-    AND associated_days.date_indicator = coalesce(associations.date_indicator, 'S')
-JOIN schedules AS other ON other.uid = associations.associated_uid
-    AND other.origin = associations.location
-    AND associated_days.associated_date BETWEEN other.first_date AND other.last_date
-    AND substr(other.days_run, associated_days.associated_weekday, 1) > '0'
-JOIN public_calls AS reached ON reached.journey = other.journey AND reached.number > 1
+    AND clock_days.train_date BETWEEN portions.first_date AND portions.last_date
+    AND substr(portions.days_run, clock_days.weekday, 1) > '0'
+JOIN associated_days ON associated_days.date = clock_days.train_date AND associated_days.date_indicator = portions.date_indicator
 LEFT JOIN clock_days AS arrival_days ON arrival_days.train_date = associated_days.associated_date
     AND arrival_days.midnights = reached.arrival_seconds / 86400
-LEFT JOIN schedules AS train ON train.id = applied.id
-WHERE applied.passenger = 1 AND boarded.get_on = 1 AND reached.get_off = 1
-    AND applied.linked = 1
-    AND boarded.number < (
-        SELECT min(calls.number)
-        FROM calls
-        WHERE calls.journey = applied.journey
-            AND calls.location = associations.location
-            AND coalesce(calls.suffix, '') = coalesce(associations.base_suffix, '')
-            AND (calls.arrival IS NOT NULL OR calls.departure IS NOT NULL)
-    )
-    AND (
-        associations.category = 'VV'
-        OR associations.location = (SELECT schedules.destination FROM schedules WHERE schedules.id = applied.id)
-    )
+LEFT JOIN schedules AS train ON train.id = portions.schedule
+LEFT JOIN schedules AS other ON other.id = portions.portion_schedule
+WHERE boarded.get_on = 1 AND reached.get_off = 1;
 
-UNION ALL
-
+-- The portions that riders of a train reach in their seats, on each date of the train that they board: who boards it before a call can
+-- get off the portion after one of its own.
+CREATE VIEW portions_on AS
 SELECT
-    boarded.station_crs AS from_crs,
-    reached.station_crs AS to_crs,
-    clock_days.date,
-    boarded.departure_time AS departure,
-    arrival_days.date AS arrival_date,
-    substr(CAST(100 + reached.arrival_seconds % 86400 / 3600 AS text), 2) || ':' ||
-        substr(CAST(100 + reached.arrival_seconds % 3600 / 60 AS text), 2) || ':' ||
-        substr(CAST(100 + reached.arrival_seconds % 60 AS text), 2) AS arrival,
-    0 AS changes,
-    clock_days.train_date,
+    days.date AS train_date,
     train.uid,
-    train.identity,
-    train.operator,
-    train.as_required,
+    portions.journey,
+    portions.before_call,
+    associations.category,
+    associations.location,
+    coalesce(places.name, associations.location) AS location_name,
+    associated_days.associated_date AS portion_date,
     other.uid AS portion,
-    boarded.platform,
-    boarded.journey,
-    boarded.number
-FROM public_calls AS boarded
-JOIN schedules AS applied ON applied.journey = boarded.journey
-JOIN clock_days ON clock_days.midnights = boarded.departure_seconds / 86400
-    AND clock_days.train_date BETWEEN applied.first_date AND applied.last_date
-    AND substr(applied.days_run, clock_days.weekday, 1) > '0'
-JOIN associations ON associations.associated_uid = applied.uid
-    AND associations.category = 'JJ'
-    AND coalesce(associations.association_type, 'P') = 'P'
-JOIN associated_days ON associated_days.associated_date = clock_days.train_date
-    AND associated_days.date_indicator = coalesce(associations.date_indicator, 'S')
-    AND associated_days.date BETWEEN associations.first_date AND associations.last_date
-    AND substr(associations.days_run, associated_days.weekday, 1) > '0'
-JOIN schedules AS other ON other.uid = associations.base_uid
-    AND associated_days.date BETWEEN other.first_date AND other.last_date
-    AND substr(other.days_run, associated_days.weekday, 1) > '0'
-JOIN public_calls AS reached ON reached.journey = other.journey
-LEFT JOIN clock_days AS arrival_days ON arrival_days.train_date = associated_days.date
-    AND arrival_days.midnights = reached.arrival_seconds / 86400
-LEFT JOIN schedules AS train ON train.id = applied.id
-WHERE applied.passenger = 1 AND boarded.get_on = 1 AND reached.get_off = 1
-    AND applied.linked = 1
-    AND reached.number > (
-        SELECT min(calls.number)
-        FROM calls
-        WHERE calls.journey = other.journey
-            AND calls.location = associations.location
-            AND coalesce(calls.suffix, '') = coalesce(associations.base_suffix, '')
-            AND (calls.arrival IS NOT NULL OR calls.departure IS NOT NULL)
-    )
-    AND associations.location = (SELECT schedules.destination FROM schedules WHERE schedules.id = applied.id);
+    portions.portion_journey,
+    portions.after_call,
+    train.riders_origin AS origin,
+    coalesce(starts.name, train.riders_origin) AS origin_name,
+    other.riders_destination AS destination,
+    coalesce(ends.name, other.riders_destination) AS destination_name
+FROM portions
+JOIN days ON days.date BETWEEN portions.first_date AND portions.last_date
+    AND substr(portions.days_run, days.weekday, 1) > '0'
+JOIN associated_days ON associated_days.date = days.date AND associated_days.date_indicator = portions.date_indicator
+LEFT JOIN associations ON associations.id = portions.association
+LEFT JOIN schedules AS train ON train.id = portions.schedule
+LEFT JOIN schedules AS other ON other.id = portions.portion_schedule
+LEFT JOIN locations AS places ON places.tiploc = associations.location
+LEFT JOIN locations AS starts ON starts.tiploc = train.riders_origin
+LEFT JOIN locations AS ends ON ends.tiploc = other.riders_destination;

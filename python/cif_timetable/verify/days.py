@@ -2,8 +2,8 @@
 from __future__ import annotations
 
 import json
-from collections.abc import Sequence
-from datetime import date
+from collections.abc import Iterator, Sequence
+from datetime import date, timedelta
 from typing import NamedTuple
 
 from .._extract import Extract, yymmdd
@@ -15,6 +15,7 @@ from .riders import off_and_on
 from .schedules import (
     Public,
     Schedule,
+    flags_of,
     is_for_passengers,
     public_rows,
     read_schedules,
@@ -34,8 +35,73 @@ ASSOCIATIONS_IN_CIF = (
 )
 
 
+CALLS_ON = (
+    "uid number record location suffix arrival departure pass public_arrival public_departure platform"
+    " path line activities".split()
+)
+STOPS_OF = (
+    "uid number location platform arrival_date arrival departure_date departure set_down pick_up"
+    " get_off get_on".split()
+)
+
+
+def compare_calls(database: Database, extract: Extract, day: date) -> None:
+    """Compares all calls of the trains of a date."""
+    with extract.answer(["day", "--stops", "--format", "json"], [yymmdd(day)]) as lines:
+        trains = [row for row in map(json.loads, lines) if row["kind"] == "BS"]
+    wanted = sorted(
+        "\t".join((row["uid"], str(number), *(call[name] or "" for name in CALLS_ON[2:]))) + "\n"
+        for row in trains
+        for number, call in enumerate(row["calls"], 1)
+    )
+    found = sorted(database.rows(CALLS_ON, f"FROM calls_on WHERE date = '{day}'"))
+    compare_rows(f"calls_on on {day}, in order", CALLS_ON, found, wanted)
+
+
+def by_clock(day: date, moment: str) -> tuple[str, str]:
+    """The date and the time by the clock of a moment, whose hours may go on past 24."""
+    hours, rest = moment.split(":", 1)
+    later = timedelta(days=int(hours) // 24)
+    return (day + later).isoformat(), f"{int(hours) % 24:02}:{rest}"
+
+
+def compare_stops(database: Database, extract: Extract, form: str, days: Sequence[date]) -> None:
+    """Compares the calls for riders of the trains of dates."""
+    schedules = read_schedules(extract, form)
+    on_days = [f"{day}" for day in days]
+    running: dict[str, list[date]] = {}
+    for number, schedule in schedules.items():
+        running[number] = [
+            day
+            for day, text in zip(days, on_days)
+            if schedule.first <= text <= schedule.last and schedule.days_run[day.weekday()] == "1"
+        ]
+    wanted: dict[date, list[str]] = {day: [] for day in days}
+    with table_of(extract, "public", form) as table:
+        lines = (line for line in text_lines(table) if running[line.split("\t", 1)[0]])
+        for number, calls in public_rows(lines):
+            schedule = schedules[number]
+            if is_for_passengers(schedule, calls):
+                for day in running[number]:
+                    wanted[day] += stop_rows(schedule, calls, day)
+    for day, rows in wanted.items():
+        found = sorted(database.rows(STOPS_OF, f"FROM stops_of WHERE train_date = '{day}'"))
+        compare_rows(f"stops_of on {day}, in order", STOPS_OF, found, sorted(rows))
+
+
+def stop_rows(schedule: Schedule, calls: Sequence[Public], day: date) -> Iterator[str]:
+    """The rows of `stops_of` of a train on a date."""
+    for call in calls:
+        off, on = flags_of(schedule, call)
+        if off or on:
+            moments = (*by_clock(day, call.arrival), *by_clock(day, call.departure))
+            flags = (call.set_down, call.pick_up, f"{off:d}", f"{on:d}")
+            place = (schedule.uid, str(call.call), call.location, call.platform)
+            yield "\t".join((*place, *moments, *flags)) + "\n"
+
+
 def compare_day(database: Database, extract: Extract, day: date) -> None:
-    """Compares the trains and the associations of a date."""
+    """Compares the trains, their calls and the associations of a date."""
     with extract.answer(["day", "--format", "tsv"], [yymmdd(day)]) as lines:
         table = heading_of(lines)
         kind = table.names.index("kind")
@@ -48,6 +114,7 @@ def compare_day(database: Database, extract: Extract, day: date) -> None:
         wanted = sorted("\t".join(cells_at(row)) + "\n" for row in rows if row[kind] == record)
         found = sorted(database.rows(columns, f"FROM {view} WHERE date = '{day}'"))
         compare_rows(f"{view} on {day}, in order", columns, found, wanted)
+    compare_calls(database, extract, day)
 
 
 class Sides(NamedTuple):

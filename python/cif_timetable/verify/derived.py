@@ -11,6 +11,7 @@ from .._extract import Extract
 from ..model import Header
 from .database import Database
 from .difference import compare_rows
+from .portions import compare_portions
 from .riders import NEVER
 from .schedules import (
     Public,
@@ -25,7 +26,6 @@ from .schedules import (
 )
 
 AS_REQUIRED = set("QY")
-FOR_PASSENGERS = ("", "P")
 # How many days after the base train the associated one runs, by the date indicator.
 DAYS_LATER = {"S": 0, "N": 1, "P": -1}
 
@@ -65,13 +65,6 @@ def riders_ends(calls: list[Public]) -> tuple[str, str]:
     return first.location, last.location
 
 
-def linked_uids(extract: Extract, form: str) -> set[str]:
-    """The trains that associations for passengers name."""
-    with table_of(extract, "associations", form) as table:
-        rows = list(cells_of(table, ("base_uid", "associated_uid", "association_type")))
-    return {uid for *uids, kind in rows if kind in FOR_PASSENGERS for uid in uids}
-
-
 def for_passengers(
     extract: Extract, form: str, schedules: dict[str, Schedule]
 ) -> Iterator[tuple[Schedule, list[Public]]]:
@@ -89,10 +82,10 @@ def for_passengers(
 
 
 def compare_derived(database: Database, extract: Extract, form: str, header: Header) -> None:
-    """Compares what the database has of schedules and public calls besides their fields, then dates,
-    and then how many trains run."""
+    """Compares what the database has of schedules and public calls besides their fields, then which
+    portions riders reach, dates, and how many trains run."""
     schedules = read_schedules(extract, form)
-    linked = linked_uids(extract, form)
+    passengers: set[str] = set()
     trains: Trains = Counter()
     midnights = 0
     calls_wanted: list[str] = []
@@ -101,6 +94,8 @@ def compare_derived(database: Database, extract: Extract, form: str, header: Hea
         nonlocal midnights
         for schedule, calls in for_passengers(extract, form, schedules):
             passenger = int(is_for_passengers(schedule, calls))
+            if passenger:
+                passengers.add(schedule.number)
             as_required = int(bool(AS_REQUIRED & set(schedule.characteristics)))
             days = Days(schedule.first, schedule.last, schedule.days_run)
             trains[days, Counted(schedule.operator, passenger, as_required)] += 1
@@ -109,16 +104,17 @@ def compare_derived(database: Database, extract: Extract, form: str, header: Hea
                 off, on = flags_of(schedule, call)
                 clock = by_clock(call.departure)
                 calls_wanted.append(f"{schedule.number}\t{call.call}\t{clock}\t{off:d}\t{on:d}\n")
-            cells = (passenger, as_required, int(schedule.uid in linked), *riders_ends(calls))
+            cells = (passenger, as_required, *riders_ends(calls))
             yield "\t".join(map(str, (schedule.number, *cells))) + "\n"
 
-    names = "id passenger as_required linked riders_origin riders_destination".split()
+    names = "id passenger as_required riders_origin riders_destination".split()
     rows = database.rows(names, "FROM schedules ORDER BY id")
     compare_rows("what is told of schedules", names, rows, schedules_wanted())
     names = "schedules.id number departure_time get_off get_on".split()
     joined = "FROM schedules JOIN public_calls ON public_calls.journey = schedules.journey"
     rows = database.rows(names, f"{joined} ORDER BY schedules.id, number")
     compare_rows("riders at public calls", names, rows, calls_wanted)
+    compare_portions(database, extract, form, schedules, passengers)
     days_run = {schedule.days_run for schedule in schedules.values()}
     with table_of(extract, "associations", form) as table:
         days_run |= {mask for _, mask in cells_of(table, ("base_uid", "days_run"))}

@@ -8,6 +8,7 @@ from typing import NamedTuple
 
 from .._extract import Extract
 from .._progress import Progress
+from ..model import Header
 from ..places import PlaceRow
 from ..user_csv import Key
 from .difference import Different
@@ -132,14 +133,14 @@ class Found:
 
     def days_later(self, whole: Whole) -> int:
         """How many days later than its service a train runs: one that is linked with a train of the
-        evening before may count to that date, with times from 24:00:00 on."""
+        evening before may count to that date, with its own times from 24:00:00 on."""
         known = self.wanted.get(whole.uid, {})
         if known.get((whole.about, whole.text), 0) & whole.dates == whole.dates:
             return 0
         is_linked = whole.uid in self.linked_uids or any(map(self.linked.__contains__, whole.trips))
         if not is_linked:
             return 0
-        if whole.text and all(row.split("\t")[2] >= "24" for row in whole.text.split("\n")):
+        if whole.text and any(row.split("\t")[2] >= "24" for row in whole.text.split("\n")):
             earlier = later_text(whole.text, -1)
             own_dates = whole.dates << 1
             if known.get((whole.about, earlier), 0) & own_dates == own_dates:
@@ -302,6 +303,16 @@ def compare_stops(feed: Feed, stops: Stops) -> None:
                 raise Different(f"stops.txt, {stop}: its {name} is `{one}` and not `{other}`")
 
 
+def compare_spans(feed: Feed, header: Header) -> None:
+    """Compares the dates that the feed says it is for, if it says so."""
+    names = ("feed_start_date", "feed_end_date")
+    wanted = [f"{day:%Y%m%d}" for day in (header.first_date, header.last_date)]
+    for span in feed.spans:
+        for name, one, other in zip(names, span, wanted):
+            if one.strip() not in ("", other):
+                raise Different(f"feed_info.txt: {name} is `{one}` and not `{other}`")
+
+
 def left_out_lines(trains: Trains, links: Links) -> list[str]:
     """What the feed leaves out, counted, with one of each."""
     lines = []
@@ -356,6 +367,7 @@ def verify_feed(
     compare_trains(found.trains, wanted, window)
     compare_links(found.links(), links.dates, window)
     compare_stops(feed, stops)
+    compare_spans(feed, header)
     agencies = {trip.about.agency for trip in feed.trips.values()}
     for agency in sorted(agencies - feed.agencies):
         raise Different(f"agency.txt has no {agency}")

@@ -69,10 +69,12 @@ def compare_stations(database: Database, extract: Extract, given: Mapping[Key, P
 def compare_operators(database: Database, given: Mapping[Key, OperatorRow]) -> None:
     """Compares the names of operators."""
     columns = "operator", "operator_name"
+    wanted = []
     for row in database.rows(columns, "FROM schedules GROUP BY operator, operator_name"):
         code, name = row.rstrip("\n").split("\t")
-        wanted = operator_name(code, given) if code else ""
-        if name != wanted:
-            raise Different(
-                f"table schedules: the operator `{code}` is `{name}` and not `{wanted}`"
-            )
+        known = operator_name(code, given) if code else ""
+        if name != known:
+            raise Different(f"table schedules: the operator `{code}` is `{name}` and not `{known}`")
+        wanted += [row] if code else []
+    found = sorted(database.rows(columns, "FROM operators"))
+    compare_rows("table operators, in order", columns, found, sorted(wanted))

@@ -15,7 +15,7 @@ from ..operators import OperatorRow
 from ..places import PlaceRow
 from ..user_csv import Key
 from .database import Database
-from .days import check_commands, compare_day, compare_places
+from .days import check_commands, compare_day, compare_places, compare_stops
 from .derived import compare_derived
 from .difference import Different, compare_rows
 from .stations import compare_operators, compare_stations
@@ -102,6 +102,8 @@ def verify_database(
                     dates = f"{header.first_date} to {header.last_date}"
                     raise Refused(f"{day} isn't a date of the database, which has {dates}")
                 compare_day(database, extract, day)
+            if asked.dates:
+                compare_stops(database, extract, loaded.form, asked.dates)
             if asked.places:
                 compare_places(database, extract, loaded.form, asked.dates, asked.places)
         if what_is_loaded(database) != loaded:

@@ -113,6 +113,8 @@ class Feed(NamedTuple):
     agencies: set[str]
     trips: dict[str, Trip]
     links: set[Link]
+    # the first and the last date of each row of feed_info
+    spans: list[tuple[str, ...]]
 
 
 @contextmanager
@@ -290,4 +292,7 @@ def links_of(archive: zipfile.ZipFile) -> set[Link]:
 def read_feed(path: str, window: Window) -> Feed:
     with opened(path) as archive:
         agencies = {agency for (agency,) in rows_of(archive, "agency", ("agency_id",))}
-        return Feed(stops_of(archive), agencies, trips_of(archive, window), links_of(archive))
+        trips, links = trips_of(archive, window), links_of(archive)
+        ends = ("feed_start_date", "feed_end_date")
+        spans = list(rows_of(archive, "feed_info", ends, needed=False))
+        return Feed(stops_of(archive), agencies, trips, links, spans)

@@ -3,19 +3,31 @@
 -- than an hour is after one.
 WITH here AS MATERIALIZED (
     SELECT
-        journey,
-        number,
-        coalesce(departure_seconds, pass_seconds, arrival_seconds) AS seconds
+        calls.journey,
+        calls.number,
+        coalesce(calls.departure_seconds, calls.pass_seconds, calls.arrival_seconds) AS seconds,
+        public_calls.departure_seconds AS public_seconds,
+        -- whether riders are told the call's own time, and it is within three hours of the working one
+        public_calls.departure_time = substr(coalesce(nullif(calls.public_departure, '0000'), calls.public_arrival), 1, 2) || ':'
+            || substr(coalesce(nullif(calls.public_departure, '0000'), calls.public_arrival), 3) || ':00'
+        AND (
+            public_calls.departure_seconds - coalesce(calls.departure_seconds, calls.pass_seconds, calls.arrival_seconds) + 97200
+        ) % 86400 <= 21600 AS is_near
     FROM calls
-    WHERE location IN (SELECT tiploc FROM locations WHERE station_crs = :station_crs UNION SELECT :location)
-        AND seconds >= :first_seconds AND seconds < :last_seconds
+    LEFT JOIN public_calls ON public_calls.journey = calls.journey AND public_calls.number = calls.number
+    WHERE calls.location IN (SELECT tiploc FROM locations WHERE station_crs = :station_crs UNION SELECT :location)
+        AND coalesce(calls.departure, calls.pass, calls.arrival) >= :first_working
+        AND coalesce(calls.departure, calls.pass, calls.arrival) < :last_working
 ),
 -- Those that no schedule has on this date or shortly before aren't looked at further.
 near AS MATERIALIZED (
-    SELECT DISTINCT here.*
+    SELECT *
     FROM here
-    JOIN schedules ON schedules.journey = here.journey
-        AND schedules.first_date <= :date AND schedules.last_date >= date(:date, '-31 days')
+    WHERE EXISTS (
+        SELECT 1
+        FROM schedules
+        WHERE schedules.journey = here.journey AND schedules.first_date <= :date AND schedules.last_date >= date(:date, '-31 days')
+    )
 ),
 moments AS (
     SELECT
@@ -31,8 +43,14 @@ moments AS (
     FROM near
     JOIN calls ON calls.journey = near.journey AND calls.number <= near.number
         AND coalesce(calls.arrival, calls.pass, calls.departure) IS NOT NULL
+    WHERE near.is_near IS NOT 1
 ),
+-- Times that riders are told say how many midnights there are; of other calls they are counted from the train's first call on.
 counted AS MATERIALIZED (
+    SELECT journey, number, seconds, (public_seconds - seconds + 43200) / 86400 AS midnights
+    FROM near
+    WHERE is_near
+    UNION ALL
     SELECT
         journey,
         number,
