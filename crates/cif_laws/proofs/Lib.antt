@@ -1,6 +1,8 @@
 pub mod FeedMeaning
 pub mod NarrowedHeaders
+pub mod FeedStates
 pub mod PreparedInputs
+pub mod FeedViews
 pub mod CanonicalFeeds
 pub mod ComparedFeeds
 pub mod PairsOfFeeds
@@ -12,6 +14,8 @@ pub mod ClearFeeds
 pub mod MarkedLines
 pub mod SideExtracts
 pub mod ToldByText
+pub mod TurnedAlike
+pub mod CanonicalAnswers
 pub mod AlikeEntries
 pub mod OneRecord
 pub mod FormsOfTexts

@@ -1,0 +1,9 @@
+pub mod Answer
+pub mod CommandLine
+pub mod Job
+pub mod JobFault
+pub mod Status
+pub mod Reported
+pub mod Verbosity
+pub mod Input
+pub mod Program
