@@ -1,5 +1,5 @@
 -- What comes of a call of the program: what goes to the output and to the errors, and the status, for all words and all inputs.
-use Rattle.std.specs.Prelude.{Bool, Err, IfErr, List, None, Option, Result, Some, [], codes, map, string_bytes, true, ℕ, ⊤, ◌||◌, ◌∷◌, ◌≡◌, ◌⊎◌}
+use Rattle.std.specs.Prelude.{Bool, Err, IfErr, List, None, Ok, Option, Result, Some, [], codes, map, string_bytes, true, ℕ, ⊤, ◌||◌, ◌∷◌, ◌≡◌, ◌⊎◌}
 use Rattle.std.specs.{List.list_any, Str.bytes_eq}
 use Rattle.std.specs.declared.alloc.AllocError.{AllocError}
 use Rattle.clap.specs.Words.{Text}

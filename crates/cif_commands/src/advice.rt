@@ -22,7 +22,7 @@ pub trait Advice<F: Files, W> {
     /// Of `prepare`, with `--winners` or without.
     fn on_prepare(
         &self,
-        done: &DonePrepare<'_, '_, F, W>,
+        done: &DonePrepare<'_, '_, '_, F, W>,
         answer: &Result<Dropped, FeedFault>,
         kept: &KeptPrepare,
     ) -> Vec<u8>;
@@ -52,11 +52,12 @@ pub struct DoneJob<'a, 'b, F: Files, W> {
 
 /// A job of `prepare` that was done.
 #[derive(Drop)]
-pub struct DonePrepare<'a, 'b, F: Files, W> {
+pub struct DonePrepare<'a, 'h, 'b, F: Files, W> {
     pub verbosity: Verbosity,
     pub job: &'a PrepareJob,
     pub output: &'a W,
-    pub holidays: Option<&'a Input<'b, F>>,
+    // Lent for as long as the extract, it would be more than the borrow checker covers.
+    pub holidays: Option<&'h Source<Input<'b, F>>>,
     pub extract: &'a Input<'b, F>,
 }
 

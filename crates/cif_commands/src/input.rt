@@ -144,6 +144,7 @@ pub(crate) struct Opening<F> {
 }
 
 impl<F: Files> Opening<F> {
+    ghost use Rattle.std.specs.Box.{box_value};
     ghost use Rattle.std.specs.Prelude.{IfOk, List, ℕ, map, string_bytes};
     ghost use Rattle.cif_commands.specs.Job.{names_of};
     ghost use Rattle.cif_commands.specs.Input.{AreFeedInputs, AreOpened, IsOpened, given_by};
@@ -181,7 +182,7 @@ impl<F: Files> Opening<F> {
         name: &'a str,
     ) -> Result<Box<Source<Input<'a, F>>>, AllocError>
         ensures { IfOk result (λ source. IsOpened ⟦<Input<'a, F> as Read>⟧.remaining
-            (given_by (F.of_standard self.now.files) (F.of_file self.now.files)) name.now source) }
+            (given_by (F.of_standard self.now.files) (F.of_file self.now.files)) name.now (box_value source)) }
     {
         Ok(Box::new(self.alloc, self.source(side, name))?)
     }
@@ -194,7 +195,7 @@ impl<F: Files> Opening<F> {
     ) -> Result<FeedInputs<'a, F>, AllocError>
         ensures { IfOk result (λ opened. AreFeedInputs ⟦<Input<'a, F> as Read>⟧.remaining
             (given_by (F.of_standard self.now.files) (F.of_file self.now.files)) (names_of inputs.now)
-            opened.holidays opened.extract) }
+            opened.holidays (box_value opened.extract)) }
     {
         let first = inputs.first.as_str();
         match inputs.rest.first() {
@@ -232,14 +233,4 @@ impl<F: Files> Opening<F> {
 pub(crate) struct FeedInputs<'a, F: Files> {
     pub(crate) holidays: Option<Source<Input<'a, F>>>,
     pub(crate) extract: Box<Source<Input<'a, F>>>,
-}
-
-impl<'a, F: Files> FeedInputs<'a, F> {
-    /// What holidays are read from, if there are some.
-    pub(crate) fn holidays(&self) -> Option<&Input<'a, F>> {
-        match &self.holidays {
-            Some(source) => Some(source.reader()),
-            None => None,
-        }
-    }
 }

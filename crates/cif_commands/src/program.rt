@@ -9,7 +9,7 @@ use crate::advice::{Advice, DoneJob, DonePrepare, DoneUpdates};
 use crate::answers::run_job;
 use crate::feed_run::{run_prepare, run_update, run_winners};
 use crate::files::Files;
-use crate::input::{Input, Opening};
+use crate::input::{FeedInputs, Input, Opening};
 use crate::job::{FeedJob, Job, JobFault, PrepareJob, Request, Task, UpdateJob, run_fault};
 use crate::status::end;
 use crate::verbosity::Verbosity;
@@ -147,16 +147,19 @@ impl<F: Files, A> Program<F, A> {
             output.old output.new errors.old errors.new result }
     {
         let opening = self.opening(request);
-        let mut inputs = opening.feed_inputs(&request.inputs)?;
-        let ended = run_prepare(self.alloc, job, &mut inputs.holidays, &mut *inputs.extract, output, errors);
+        let FeedInputs {
+            mut holidays,
+            mut extract,
+        } = opening.feed_inputs(&request.inputs)?;
+        let ended = run_prepare(self.alloc, job, &mut holidays, &mut *extract, output, errors);
         let ended = ManuallyDrop::new(ended);
         if opening.verbosity.helps() {
             let done = DonePrepare {
                 verbosity: opening.verbosity,
                 job,
                 output: output.writer(),
-                holidays: inputs.holidays(),
-                extract: inputs.extract.reader(),
+                holidays: holidays.as_ref(),
+                extract: extract.reader(),
             };
             let text = self.advice.on_prepare(&done, &ended.answer, &ended.kept);
             let _ = errors.write_all(text.as_slice());
@@ -183,13 +186,16 @@ impl<F: Files, A> Program<F, A> {
             output.old output.new errors.old errors.new result }
     {
         let opening = self.opening(request);
-        let mut inputs = opening.feed_inputs(&request.inputs)?;
+        let FeedInputs {
+            mut holidays,
+            mut extract,
+        } = opening.feed_inputs(&request.inputs)?;
         let ended = run_winners(
             self.alloc,
             job,
             format,
-            &mut inputs.holidays,
-            &mut *inputs.extract,
+            &mut holidays,
+            &mut *extract,
             output,
             errors,
         );
@@ -199,8 +205,8 @@ impl<F: Files, A> Program<F, A> {
                 verbosity: opening.verbosity,
                 job,
                 output: output.writer(),
-                holidays: inputs.holidays(),
-                extract: inputs.extract.reader(),
+                holidays: holidays.as_ref(),
+                extract: extract.reader(),
             };
             let text = self.advice.on_prepare(&done, &ended.answer, &ended.kept);
             let _ = errors.write_all(text.as_slice());

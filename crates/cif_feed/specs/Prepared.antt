@@ -1,6 +1,6 @@
 -- The prepared records of published ones.
 use Rattle.std.specs.Prelude.{◌≡◌, ◌↔◌, ℕ, Bool, List, [], ◌∷◌, ◌++◌, Option, All, IsTrue, map, max, if◌then◌else◌}
-use Rattle.cif_calendar.specs.{Clash.IsClear, Runs.Runs, Terms.Records, Terms.Terms, Wins.Wins}
+use Rattle.cif_calendar.specs.{Applies.Applies, Clash.IsClear, Runs.Runs, Terms.Records, Terms.Terms, Wins.Wins}
 use Rattle.cif_feed.specs.{LastDay.last_day, Published.PublishedTerms, declared.holidays.HolidayCode.HolidayCode}
 use Rattle.cif_feed.specs.Parts.{AreParts, Part, ended}
 

@@ -4,6 +4,7 @@ pub mod FeedStates
 pub mod PreparedInputs
 pub mod FeedViews
 pub mod CanonicalFeeds
+pub mod FeedChains
 pub mod ComparedFeeds
 pub mod PairsOfFeeds
 pub mod OtherKeys

@@ -5,3 +5,4 @@ pub mod Feeds
 pub mod FeedDifferences
 pub mod FeedViews
 pub mod CanonicalAnswers
+pub mod FeedChains

@@ -26,7 +26,7 @@ impl Advice<ProcessFiles, ProcessOutput> for ProcessAdvice {
 
     fn on_prepare(
         &self,
-        done: &DonePrepare<'_, '_, ProcessFiles, ProcessOutput>,
+        done: &DonePrepare<'_, '_, '_, ProcessFiles, ProcessOutput>,
         answer: &Result<Dropped, FeedFault>,
         kept: &KeptPrepare,
     ) -> Vec<u8> {

@@ -29,7 +29,7 @@ const IN_THEIR_ORDER: &str = "updates stand in their order, the oldest first";
 /// What is said of a job of `prepare` that was done: more of its answer, or what helps with its fault.
 pub(crate) fn prepare_advice(
     rt: HostRuntime,
-    done: &DonePrepare<'_, '_, ProcessFiles, ProcessOutput>,
+    done: &DonePrepare<'_, '_, '_, ProcessFiles, ProcessOutput>,
     answer: &Result<Dropped, FeedFault>,
     kept: &KeptPrepare,
 ) -> Vec<u8> {
@@ -76,7 +76,7 @@ fn add_prepared(
 
 /// Adds why there is no prepared extract, of the input that was read last.
 fn add_unprepared(
-    done: &DonePrepare<'_, '_, ProcessFiles, ProcessOutput>,
+    done: &DonePrepare<'_, '_, '_, ProcessFiles, ProcessOutput>,
     extract: ReadInput<'_, '_>,
     fault: &FeedFault,
     message: &mut Message,
@@ -87,7 +87,7 @@ fn add_unprepared(
     let last = match done.holidays {
         Some(holidays) if !extract.input.is_touched() => ReadInput {
             rt: extract.rt,
-            input: holidays,
+            input: holidays.reader(),
         },
         _ => extract,
     };
