@@ -3,3 +3,4 @@ pub mod CheckedLines
 pub mod CommandBuilt
 pub mod KnownAnswers
 pub mod Names
+pub mod OpenedInputs

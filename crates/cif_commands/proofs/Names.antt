@@ -1,7 +1,7 @@
 -- Names of std, of the crates below and of specs/, from modules that several of the proofs cite.
 pub use Rattle.std.proofs.Common.{Bool, Bor, Err, IfErr, IfOk, IfSome, IsErrAnd, IsTrue, List, MatchOption, MatchResult, None, Ok, Option}
 pub use Rattle.std.proofs.Common.{Result, Some, [], ap, append-nil, ap₂, codes, drop, false, get_or, inl, inr, length, map, refl, rules}
-pub use Rattle.std.proofs.Common.{string_bytes, subst, sym, true, true≢false, ℕ, ⊎_elim, ◌++◌, ◌+◌, ◌<◌, ◌||◌, ◌↔◌, ◌∙◌, ◌∷◌, ◌≡◌, ◌≢◌, ◌≤◌}
+pub use Rattle.std.proofs.Common.{string_bytes, subst, sym, take, true, true≢false, ℕ, ⊎_elim, ◌++◌, ◌+◌, ◌<◌, ◌||◌, ◌↔◌, ◌∙◌, ◌∷◌, ◌≡◌, ◌≢◌, ◌≤◌}
 pub use Rattle.std.proofs.Common.{◌⊎◌}
 pub use Rattle.clap.proofs.WalkLemmas.{first_value-rows, raw_values-rows}
 pub use Rattle.clap.specs.{Simple.app_of_fields, Words.subcommand_of, Words.with_rule, Words.with_subcommand}

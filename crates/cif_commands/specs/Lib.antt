@@ -6,4 +6,5 @@ pub mod Status
 pub mod Reported
 pub mod Verbosity
 pub mod Input
+pub mod InputLeft
 pub mod Program

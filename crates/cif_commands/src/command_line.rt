@@ -298,7 +298,7 @@ fn program<'a>(alloc: Global, choices: &Choices<'a>) -> Result<Command<'a>, Allo
     ensures { IfOk result (IsCommand (cif choices.now)) }
 {
     let mut command = described(alloc, "cif", help::CIF)
-        .version("0.3.0")
+        .version("0.4.0")
         .subcommand_required(true);
     for parts in &SUBCOMMANDS {
         command = with_parts(alloc, command, parts, choices)?;

@@ -1,6 +1,6 @@
 //! An input of a call, which isn't opened before it is read.
 ghost use Rattle.std.specs.{Io.KnownBytes.ReadConsumes, Io.ReadsAtMost};
-ghost use Rattle.cif_commands.specs.Input.{device_remaining};
+ghost use Rattle.cif_commands.specs.InputLeft.{input_remaining};
 
 use crate::files::Files;
 use crate::job::InputNames;
@@ -72,10 +72,8 @@ impl<'a, F: Files> Input<'a, F> {
     fn read_device(&mut self, buf: &mut [u8]) -> io::Result<usize>
         ensures bound { ReadsAtMost result buf.new }
         ensures bytes { ReadConsumes
-            (device_remaining F.Standard.remaining F.File.remaining (F.of_standard self.old.files)
-                (F.of_file self.old.files self.old.name.now) self.old.device)
-            (device_remaining F.Standard.remaining F.File.remaining (F.of_standard self.new.files)
-                (F.of_file self.new.files self.new.name.now) self.new.device)
+            (input_remaining F.Standard.remaining F.File.remaining F.of_standard F.of_file self.old)
+            (input_remaining F.Standard.remaining F.File.remaining F.of_standard F.of_file self.new)
             result buf.new }
     {
         match &mut self.device {
@@ -105,10 +103,9 @@ impl<'a, F: Files> Input<'a, F> {
 }
 
 impl<F: Files> Read for Input<'_, F> {
-    ghost use Rattle.cif_commands.specs.Input.{device_remaining};
+    ghost use Rattle.cif_commands.specs.InputLeft.{input_remaining};
 
-    ghost remaining = { λ i. device_remaining F.Standard.remaining F.File.remaining (F.of_standard i.files)
-        (F.of_file i.files i.name.now) i.device };
+    ghost remaining = { input_remaining F.Standard.remaining F.File.remaining F.of_standard F.of_file };
 
     fn read(&mut self, buf: &mut [u8]) -> io::Result<usize> {
         match self.read_device(buf) {
@@ -147,7 +144,7 @@ impl<F: Files> Opening<F> {
     ghost use Rattle.std.specs.Box.{box_value};
     ghost use Rattle.std.specs.Prelude.{IfOk, List, ℕ, map, string_bytes};
     ghost use Rattle.cif_commands.specs.Job.{names_of};
-    ghost use Rattle.cif_commands.specs.Input.{AreFeedInputs, AreOpened, IsOpened, given_by};
+    ghost use Rattle.cif_commands.specs.Input.{AreFeedInputs, AreJobInputs, AreOpened, AreUpdateInputs, IsOpened, given_by};
 
     /// The input of this name, which is the standard input if it is `-`; `side` says which input it is.
     // Inlined, it would keep copies of an input on the stack of its caller, and each is some kilobytes large.
@@ -187,6 +184,29 @@ impl<F: Files> Opening<F> {
         Ok(Box::new(self.alloc, self.source(side, name))?)
     }
 
+    /// The input of a job of extracts, or the left one and the right one.
+    #[inline(never)]
+    pub(crate) fn job_inputs<'a>(
+        &self,
+        inputs: &'a InputNames,
+    ) -> Result<JobInputs<'a, F>, AllocError>
+        ensures { IfOk result (λ opened. AreJobInputs ⟦<Input<'a, F> as Read>⟧.remaining
+            (given_by (F.of_standard self.now.files) (F.of_file self.now.files)) (names_of inputs.now)
+            (box_value opened.left) (box_value opened.right)) }
+    {
+        let first = inputs.first.as_str();
+        match inputs.rest.first() {
+            None => Ok(JobInputs {
+                left: self.boxed("", first)?,
+                right: self.boxed("RIGHT", "-")?,
+            }),
+            Some(name) => Ok(JobInputs {
+                left: self.boxed("LEFT", first)?,
+                right: self.boxed("RIGHT", name.as_str())?,
+            }),
+        }
+    }
+
     /// The holidays, the input before the extract, if there is one, and the extract.
     #[inline(never)]
     pub(crate) fn feed_inputs<'a>(
@@ -210,6 +230,22 @@ impl<F: Files> Opening<F> {
         }
     }
 
+    /// The full extract, the first input, and the updates, the others.
+    #[inline(never)]
+    pub(crate) fn update_inputs<'a>(
+        &self,
+        inputs: &'a InputNames,
+    ) -> Result<UpdateInputs<'a, F>, AllocError>
+        ensures { IfOk result (λ opened. AreUpdateInputs ⟦<Input<'a, F> as Read>⟧.remaining
+            (given_by (F.of_standard self.now.files) (F.of_file self.now.files)) (names_of inputs.now)
+            (box_value opened.full) opened.updates.items) }
+    {
+        Ok(UpdateInputs {
+            full: self.boxed("FULL", inputs.first.as_str())?,
+            updates: self.updates(inputs.rest.as_slice())?,
+        })
+    }
+
     /// The updates of these names.
     // Inlined, it would keep copies of inputs on the stack of its caller.
     #[inline(never)]
@@ -228,9 +264,23 @@ impl<F: Files> Opening<F> {
     }
 }
 
+/// The inputs of a job of extracts. Of a job with one input `right` is never touched.
+#[derive(Drop)]
+pub(crate) struct JobInputs<'a, F: Files> {
+    pub(crate) left: Box<Source<Input<'a, F>>>,
+    pub(crate) right: Box<Source<Input<'a, F>>>,
+}
+
 /// The inputs of `prepare`.
 #[derive(Drop)]
 pub(crate) struct FeedInputs<'a, F: Files> {
     pub(crate) holidays: Option<Source<Input<'a, F>>>,
     pub(crate) extract: Box<Source<Input<'a, F>>>,
+}
+
+/// The inputs of `update`.
+#[derive(Drop)]
+pub(crate) struct UpdateInputs<'a, F: Files> {
+    pub(crate) full: Box<Source<Input<'a, F>>>,
+    pub(crate) updates: Vec<Source<Input<'a, F>>>,
 }

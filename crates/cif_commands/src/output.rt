@@ -1,6 +1,4 @@
 //! An output of a call, of which advice knows what became of it.
-ghost use Rattle.std.specs.Prelude.{◌≡◌};
-
 use cif_columns::WriteDevice;
 use std::io;
 use std::io::Write;
@@ -22,18 +20,6 @@ impl<W: WriteDevice> Output<W> {
             writer,
             lines: 0,
             failure: None,
-        }
-    }
-
-    /// Counts the lines in these bytes.
-    fn count(&mut self, bytes: &[u8]) {
-        for byte in bytes {
-            if self.lines == 2 {
-                return;
-            }
-            if *byte == b'\n' {
-                self.lines = self.lines.saturating_add(1);
-            }
         }
     }
 }
@@ -58,7 +44,7 @@ impl<W: WriteDevice> WriteDevice for Output<W> {
     fn write_once(&mut self, bytes: &[u8]) -> io::Result<usize> {
         match self.writer.write_once(bytes) {
             Ok(count) => {
-                self.count(&bytes[..count]);
+                self.lines = counted(self.lines, &bytes[..count]);
                 Ok(count)
             }
             Err(error) => {
@@ -71,4 +57,18 @@ impl<W: WriteDevice> WriteDevice for Output<W> {
     fn flush_once(&mut self) -> io::Result<()> {
         self.writer.flush_once()
     }
+}
+
+/// How many lines were written, of which no more than two are counted, once these bytes were written too.
+fn counted(before: u8, bytes: &[u8]) -> u8 {
+    let mut lines = before;
+    for byte in bytes {
+        if lines == 2 {
+            return lines;
+        }
+        if *byte == b'\n' {
+            lines = lines.saturating_add(1);
+        }
+    }
+    lines
 }

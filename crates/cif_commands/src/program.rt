@@ -9,7 +9,7 @@ use crate::advice::{Advice, DoneJob, DonePrepare, DoneUpdates};
 use crate::answers::run_job;
 use crate::feed_run::{run_prepare, run_update, run_winners};
 use crate::files::Files;
-use crate::input::{FeedInputs, Input, Opening};
+use crate::input::{FeedInputs, Input, JobInputs, Opening, UpdateInputs};
 use crate::job::{FeedJob, Job, JobFault, PrepareJob, Request, Task, UpdateJob, run_fault};
 use crate::status::end;
 use crate::verbosity::Verbosity;
@@ -101,30 +101,27 @@ impl<F: Files, A> Program<F, A> {
             (self.now.is_terminal || request.now.verbose) (λ told. IsJobDone told job.now) (names_of request.now.inputs)
             output.old output.new errors.old errors.new result }
     {
-        let inputs = &request.inputs;
-        // Of a job with one input `right` is never touched.
-        let (side, right_name) = match inputs.rest.first() {
-            Some(name) => ("LEFT", name.as_str()),
-            None => ("", "-"),
-        };
         let opening = self.opening(request);
-        let mut left = opening.boxed(side, inputs.first.as_str())?;
-        let mut right = opening.boxed("RIGHT", right_name)?;
+        let JobInputs {
+            mut left,
+            mut right,
+        } = opening.job_inputs(&request.inputs)?;
         let ended = run_job(self.alloc, job, &mut *left, &mut *right, output, errors);
         // The process ends after this: the system takes back the memory of all bodies at once.
         let mut ended = ManuallyDrop::new(ended);
-        if opening.verbosity.helps() {
-            let done = DoneJob {
-                verbosity: opening.verbosity,
-                job,
-                output: output.writer(),
-                left: left.reader(),
-                right: right.reader(),
-            };
-            let ended = &mut *ended;
-            let text = self.advice.on_job(&done, &ended.answer, &mut ended.kept);
-            let _ = errors.write_all(text.as_slice());
+        if !opening.verbosity.helps() {
+            return Ok(ended.status);
         }
+        let done = DoneJob {
+            verbosity: opening.verbosity,
+            job,
+            output: output.writer(),
+            left: left.reader(),
+            right: right.reader(),
+        };
+        let ended = &mut *ended;
+        let text = self.advice.on_job(&done, &ended.answer, &mut ended.kept);
+        let _ = errors.write_all(text.as_slice());
         Ok(ended.status)
     }
 
@@ -153,17 +150,18 @@ impl<F: Files, A> Program<F, A> {
         } = opening.feed_inputs(&request.inputs)?;
         let ended = run_prepare(self.alloc, job, &mut holidays, &mut *extract, output, errors);
         let ended = ManuallyDrop::new(ended);
-        if opening.verbosity.helps() {
-            let done = DonePrepare {
-                verbosity: opening.verbosity,
-                job,
-                output: output.writer(),
-                holidays: holidays.as_ref(),
-                extract: extract.reader(),
-            };
-            let text = self.advice.on_prepare(&done, &ended.answer, &ended.kept);
-            let _ = errors.write_all(text.as_slice());
+        if !opening.verbosity.helps() {
+            return Ok(ended.status);
         }
+        let done = DonePrepare {
+            verbosity: opening.verbosity,
+            job,
+            output: output.writer(),
+            holidays: holidays.as_ref(),
+            extract: extract.reader(),
+        };
+        let text = self.advice.on_prepare(&done, &ended.answer, &ended.kept);
+        let _ = errors.write_all(text.as_slice());
         Ok(ended.status)
     }
 
@@ -200,17 +198,18 @@ impl<F: Files, A> Program<F, A> {
             errors,
         );
         let ended = ManuallyDrop::new(ended);
-        if opening.verbosity.helps() {
-            let done = DonePrepare {
-                verbosity: opening.verbosity,
-                job,
-                output: output.writer(),
-                holidays: holidays.as_ref(),
-                extract: extract.reader(),
-            };
-            let text = self.advice.on_prepare(&done, &ended.answer, &ended.kept);
-            let _ = errors.write_all(text.as_slice());
+        if !opening.verbosity.helps() {
+            return Ok(ended.status);
         }
+        let done = DonePrepare {
+            verbosity: opening.verbosity,
+            job,
+            output: output.writer(),
+            holidays: holidays.as_ref(),
+            extract: extract.reader(),
+        };
+        let text = self.advice.on_prepare(&done, &ended.answer, &ended.kept);
+        let _ = errors.write_all(text.as_slice());
         Ok(ended.status)
     }
 
@@ -232,8 +231,10 @@ impl<F: Files, A> Program<F, A> {
             output.old output.new errors.old errors.new result }
     {
         let opening = self.opening(request);
-        let mut full = opening.boxed("FULL", request.inputs.first.as_str())?;
-        let mut updates = opening.updates(request.inputs.rest.as_slice())?;
+        let UpdateInputs {
+            mut full,
+            mut updates,
+        } = opening.update_inputs(&request.inputs)?;
         let ended = run_update(
             self.alloc,
             job,
@@ -243,16 +244,17 @@ impl<F: Files, A> Program<F, A> {
             errors,
         );
         let ended = ManuallyDrop::new(ended);
-        if opening.verbosity.helps() {
-            let done = DoneUpdates {
-                verbosity: opening.verbosity,
-                output: output.writer(),
-                full: full.reader(),
-                updates: updates.as_slice(),
-            };
-            let text = self.advice.on_update(&done, &ended.answer, &ended.kept);
-            let _ = errors.write_all(text.as_slice());
+        if !opening.verbosity.helps() {
+            return Ok(ended.status);
         }
+        let done = DoneUpdates {
+            verbosity: opening.verbosity,
+            output: output.writer(),
+            full: full.reader(),
+            updates: updates.as_slice(),
+        };
+        let text = self.advice.on_update(&done, &ended.answer, &ended.kept);
+        let _ = errors.write_all(text.as_slice());
         Ok(ended.status)
     }
 
@@ -286,10 +288,12 @@ impl<F: Files, A> Program<F, A> {
             (self.now.is_terminal || asks_more) fault.now output.old output.new errors.old errors.new result }
     {
         let status = run_fault(fault, output, errors);
-        if self.is_terminal || asks_more {
-            let text = self.advice.on_words(fault);
-            let _ = errors.write_all(text.as_slice());
+        let helps = self.is_terminal || asks_more;
+        if !helps {
+            return status;
         }
+        let text = self.advice.on_words(fault);
+        let _ = errors.write_all(text.as_slice());
         status
     }
 }
@@ -298,5 +302,17 @@ impl<F: Files, A> Program<F, A> {
 fn has_verbose(words: &[String]) -> bool
     ensures { result ≡ list_any is_verbose (map string_bytes words.now) }
 {
-    words.iter().any(|word| word.as_str() == "-v" || word.as_str() == "--verbose")
+    for word in words {
+        if is_verbose(word.as_str()) {
+            return true;
+        }
+    }
+    false
+}
+
+/// Whether the word asks for it.
+fn is_verbose(word: &str) -> bool
+    ensures { result ≡ is_verbose word.now }
+{
+    word == "-v" || word == "--verbose"
 }

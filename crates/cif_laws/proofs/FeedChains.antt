@@ -1,5 +1,6 @@
 -- What a full extract and updates leave is what their last lines say, and so say the canonical bytes of what is prepared of it.
-use Rattle.std.proofs.Common.{Bool, List, [], ap, append-nil, length, map-append, subst, sym, ℕ, ◌++◌, ◌∙◌, ◌∷◌, ◌≡◌, ◌≤◌}
+use Rattle.std.proofs.Common.{Bool, List, [], ap, append-nil, length, subst, sym, ℕ, ◌++◌, ◌∙◌, ◌∷◌, ◌≡◌, ◌≤◌}
+use Rattle.std.proofs.lemmas.List.{map-append}
 use Rattle.std.specs.List.{flat_map}
 use Rattle.cif_canon.specs.{Asked.window_asked, declared.asked.Asked.Asked}
 use Rattle.cif_columns.specs.Contents.{contents_of}

@@ -4,6 +4,7 @@ use Rattle.std.specs.Cmp.Lexicographic.{slice_cmp}
 use Rattle.cif_calendar.specs.{DayState.IsDayState, Entries.association_entries, Entries.schedule_entries, Keys.of_key, Runs.Runs}
 use Rattle.cif_calendar.specs.declared.day_state.DayState.{DayState}
 use Rattle.cif_canon.specs.{Accepted.SpellsNarrowed, Asked.header_window, Asked.nothing_asked, Asked.window_asked, declared.asked.Asked.Asked}
+use Rattle.cif_canon.proofs.NormalForms.{unasked}
 use Rattle.cif_canon.specs.Views.{DayTexts, IsDayListed, IsTrainListed, TrainTexts}
 use Rattle.cif_extract.specs.{Body.BodyLines, ExtractParts.ExtractParts, SpellsExtract.BytesSpellWithin}
 use Rattle.cif_feed.specs.{WrittenPrepared.IsPreparedText, declared.dropped.Dropped.Dropped, declared.holidays.Holidays.Holidays}
@@ -12,8 +13,9 @@ use Rattle.cif_weeks.proofs.PermanentEntries.{runs-applies}
 use Rattle.cif_weeks.specs.{Canonical.AreCanonical, Window.IsWithin, Window.Window, declared.form.Form.Form}
 use Rattle.cif_laws.proofs.{FeedMeaning.associations-say, FeedMeaning.trains-say, FeedStates.train-stands}
 use Rattle.cif_laws.proofs.PreparedInputs.{in-window, is-prepared, own-header, says, window-of}
-use Rattle.cif_laws.specs.FeedViews.{AreRecordsOfFeed, AreRunningByFeed, IsFeedState}
-use Rattle.cif_laws.specs.PublishedFeed.{feed_of}
+use Rattle.cif_laws.specs.FeedViews.{AreRecordsOfFeed, AreRunningByFeed, IsBoardRowOfFeed, IsFeedState}
+use Rattle.cif_laws.specs.{Feeds.SaysWhatFeedSays, PublishedFeed.feed_of}
+use Rattle.cif_views.specs.{Boards.IsBoardRow, declared.board.Board.Board, declared.board.BoardRow.BoardRow}
 
 module _ {h : Holidays} {drops : Bool} {limit : ℕ} {bytes text : List ℕ} {dropped : Dropped}
     (a : IsPreparedText h drops limit bytes text dropped) where
@@ -35,6 +37,18 @@ module _ {h : Holidays} {drops : Bool} {limit : ℕ} {bytes text : List ℕ} {dr
             let back = subst (λ (w : ExtractParts). Runs (of_key (schedule_entries w.schedules) uid) d (Some b)) (sym same) in
             (λ has. says.0 (runs ((view.run.runs uid b).0 has)), λ feed. (view.run.runs uid b).1 (back (says.1 feed)));
       }
+
+  pub whole-of-feed : (max : ℕ) (x : ExtractParts) → BytesSpellWithin max text x
+      → SaysWhatFeedSays (header_window x.header) x (feed_of a)
+  whole-of-feed max x spelled =
+      let header = own-header a nothing_asked x spelled.spell in
+      subst (λ (v : Header). SaysWhatFeedSays (header_window v) x (feed_of a)) (sym header)
+      (says a nothing_asked x x spelled.spell (unasked x))
+
+  pub row-of-feed : (max : ℕ) (x : ExtractParts) → BytesSpellWithin max text x → (board : Board) (row : BoardRow)
+      → IsBoardRow x board row → IsBoardRowOfFeed (feed_of a) x board row
+  row-of-feed max x spelled board row is =
+      (is, ((whole-of-feed max x spelled).trains row.key.uid row.key.train_date (Some is.body) is.within).0 is.runs)
 
   pub train-of-feed : (max : ℕ) (asked : Asked) (x : ExtractParts) → SpellsNarrowed max asked x text → (listed : TrainTexts) (form : Form)
       (uid shown : List ℕ) → (view : IsTrainListed listed form x uid shown)

@@ -5,6 +5,7 @@ pub mod PreparedInputs
 pub mod FeedViews
 pub mod CanonicalFeeds
 pub mod FeedChains
+pub mod UpdateOutcomes
 pub mod ComparedFeeds
 pub mod PairsOfFeeds
 pub mod OtherKeys

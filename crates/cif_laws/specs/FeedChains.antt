@@ -1,12 +1,12 @@
 -- What a full extract and updates leave, over the whole chain.
 use Rattle.std.specs.List.{flat_map}
-use Rattle.std.specs.Prelude.{Bool, List, [], ℕ, ⊤, ◌∷◌}
+use Rattle.std.specs.Prelude.{Bool, List, [], ℕ, ⊤, ◌∷◌, ◌⊎◌}
 use Rattle.cif_canon.specs.{Asked.window_asked, NormalForm.IsNormalFormOf, declared.asked.Asked.Asked}
 use Rattle.cif_feed.specs.{Changes.HaveLastWord, PublishedParts.PublishedParts, RecordKeys.tiploc_key}
 use Rattle.cif_feed.specs.{UpdateParts.AssociationKey, UpdateParts.BytesSpellUpdate, UpdateParts.ScheduleKey, UpdateParts.UpdateParts}
-use Rattle.cif_feed.specs.{Updated.published_association_key, Updated.published_schedule_key, UpdatesInTurn.IsWritten}
+use Rattle.cif_feed.specs.{Updated.published_association_key, Updated.published_schedule_key, UpdatesInTurn.IsRefused, UpdatesInTurn.IsWritten}
 use Rattle.cif_feed.specs.{WrittenPrepared.IsPreparedText, declared.changes.RefusedLine.RefusedLine, declared.changes.Waived.Waived}
-use Rattle.cif_feed.specs.{declared.dropped.Dropped.Dropped, declared.holidays.Holidays.Holidays}
+use Rattle.cif_feed.specs.declared.{dropped.Dropped.Dropped, feed_fault.FeedFault.FeedFault, holidays.Holidays.Holidays}
 use Rattle.cif_weeks.specs.declared.form.Form.{Form}
 use Rattle.cif_laws.specs.{Feeds.SaysWhatFeedSays, PublishedFeed.PublishedFeed}
 
@@ -15,6 +15,12 @@ abbrev pub SpellUpdates : ℕ → List (List ℕ) → List UpdateParts → Type 
 SpellUpdates max [] [] = ⊤
 SpellUpdates max (bytes ∷ others) (u ∷ updates) = BytesSpellUpdate max bytes u × SpellUpdates max others updates
 SpellUpdates max _ _ = ⊥
+
+-- A full extract and updates have an outcome: this is written, with these lines waived; or an update is refused, for this.
+abbrev pub HasOutcome : Waived → ℕ → List ℕ → List (List ℕ) → Type 0
+HasOutcome how max full updates =
+    ((written : List ℕ) × (waived : List RefusedLine) × IsWritten how max full updates written waived)
+    ⊎ ((fault : FeedFault) × IsRefused how max full updates fault)
 
 -- Of each key the new records are what the last line of all these updates puts that names it, or nothing, if that line deletes it; and if no
 -- line names the key, what the old extract has of it.

@@ -4,9 +4,10 @@ use Rattle.std.specs.Ordering.{nat_cmp}
 use Rattle.std.specs.Prelude.{Contains, List, Some, true, ℕ, ◌↔◌, ◌≡◌, ◌⊎◌}
 use Rattle.cif_calendar.specs.{Clash.IsClash, DayState.IsDayState, Keys.of_key, Terms.Records, declared.day_state.DayState.DayState}
 use Rattle.cif_calendar.specs.declared.day_state.DayState.TheVariants.{NoneApplies}
-use Rattle.cif_extract.specs.Body.{BodyLines}
+use Rattle.cif_extract.specs.{Body.BodyLines, ExtractParts.ExtractParts}
 use Rattle.cif_feed.specs.{Published.CountOn, PublishedParts.published_schedules}
 use Rattle.cif_records.specs.declared.{association.AssocBody.AssocBody, association.AssocKey.AssocKey}
+use Rattle.cif_views.specs.{Boards.IsBoardRow, declared.board.Board.Board, declared.board.BoardRow.BoardRow}
 use Rattle.cif_weeks.specs.{Canonical.AreCanonical, Permanent.Permanent, WhatRuns.HasBody, Window.IsWithin, Window.Window}
 use Rattle.cif_weeks.specs.declared.form.Form.{Form}
 use Rattle.cif_laws.specs.PublishedFeed.{AssociationRuns, PublishedFeed, TrainRuns}
@@ -38,3 +39,8 @@ IsDropped p uid d = (p.drops_clashes ≡ true) × IsClash (train_counts p uid d)
 abbrev pub IsFeedState : PublishedFeed → List ℕ → ℕ → DayState → Type 0
 IsFeedState p uid d state =
     (IsDropped p uid d × (state ≡ NoneApplies)) ⊎ ((¬ IsDropped p uid d) × IsDayState (train_counts p uid d) d state)
+
+-- A row of a board of what is prepared is of a train that runs by the feed on its train date, with the body whose call it shows.
+abbrev pub IsBoardRowOfFeed : PublishedFeed → ExtractParts → Board → BoardRow → Type 0
+IsBoardRowOfFeed p x board row =
+    (is : IsBoardRow x board row) × TrainRuns p row.key.uid row.key.train_date (Some is.body)
