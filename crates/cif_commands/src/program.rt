@@ -102,15 +102,17 @@ impl<F: Files, A> Program<F, A> {
             output.old output.new errors.old errors.new result }
     {
         let opening = self.opening(request);
+        let inputs = opening.job_inputs(&request.inputs)?;
         let JobInputs {
             mut left,
             mut right,
-        } = opening.job_inputs(&request.inputs)?;
+        } = inputs;
         let ended = run_job(self.alloc, job, &mut *left, &mut *right, output, errors);
+        let status = ended.status;
         // The process ends after this: the system takes back the memory of all bodies at once.
         let mut ended = ManuallyDrop::new(ended);
         if !opening.verbosity.helps() {
-            return Ok(ended.status);
+            return Ok(status);
         }
         let done = DoneJob {
             verbosity: opening.verbosity,
@@ -122,7 +124,7 @@ impl<F: Files, A> Program<F, A> {
         let ended = &mut *ended;
         let text = self.advice.on_job(&done, &ended.answer, &mut ended.kept);
         let _ = errors.write_all(text.as_slice());
-        Ok(ended.status)
+        Ok(status)
     }
 
     /// Writes the prepared extract of the last input, with the holidays of the input before it, if there is one.
@@ -144,14 +146,16 @@ impl<F: Files, A> Program<F, A> {
             output.old output.new errors.old errors.new result }
     {
         let opening = self.opening(request);
+        let inputs = opening.feed_inputs(&request.inputs)?;
         let FeedInputs {
             mut holidays,
             mut extract,
-        } = opening.feed_inputs(&request.inputs)?;
+        } = inputs;
         let ended = run_prepare(self.alloc, job, &mut holidays, &mut *extract, output, errors);
+        let status = ended.status;
         let ended = ManuallyDrop::new(ended);
         if !opening.verbosity.helps() {
-            return Ok(ended.status);
+            return Ok(status);
         }
         let done = DonePrepare {
             verbosity: opening.verbosity,
@@ -162,7 +166,7 @@ impl<F: Files, A> Program<F, A> {
         };
         let text = self.advice.on_prepare(&done, &ended.answer, &ended.kept);
         let _ = errors.write_all(text.as_slice());
-        Ok(ended.status)
+        Ok(status)
     }
 
     /// Writes which published record decides on each date of each train, in this format, of the inputs of `prepared`.
@@ -184,10 +188,11 @@ impl<F: Files, A> Program<F, A> {
             output.old output.new errors.old errors.new result }
     {
         let opening = self.opening(request);
+        let inputs = opening.feed_inputs(&request.inputs)?;
         let FeedInputs {
             mut holidays,
             mut extract,
-        } = opening.feed_inputs(&request.inputs)?;
+        } = inputs;
         let ended = run_winners(
             self.alloc,
             job,
@@ -197,9 +202,10 @@ impl<F: Files, A> Program<F, A> {
             output,
             errors,
         );
+        let status = ended.status;
         let ended = ManuallyDrop::new(ended);
         if !opening.verbosity.helps() {
-            return Ok(ended.status);
+            return Ok(status);
         }
         let done = DonePrepare {
             verbosity: opening.verbosity,
@@ -210,7 +216,7 @@ impl<F: Files, A> Program<F, A> {
         };
         let text = self.advice.on_prepare(&done, &ended.answer, &ended.kept);
         let _ = errors.write_all(text.as_slice());
-        Ok(ended.status)
+        Ok(status)
     }
 
     /// Writes what the updates make of the full extract, the first input.
@@ -231,10 +237,11 @@ impl<F: Files, A> Program<F, A> {
             output.old output.new errors.old errors.new result }
     {
         let opening = self.opening(request);
+        let inputs = opening.update_inputs(&request.inputs)?;
         let UpdateInputs {
             mut full,
             mut updates,
-        } = opening.update_inputs(&request.inputs)?;
+        } = inputs;
         let ended = run_update(
             self.alloc,
             job,
@@ -243,9 +250,10 @@ impl<F: Files, A> Program<F, A> {
             output,
             errors,
         );
+        let status = ended.status;
         let ended = ManuallyDrop::new(ended);
         if !opening.verbosity.helps() {
-            return Ok(ended.status);
+            return Ok(status);
         }
         let done = DoneUpdates {
             verbosity: opening.verbosity,
@@ -255,7 +263,7 @@ impl<F: Files, A> Program<F, A> {
         };
         let text = self.advice.on_update(&done, &ended.answer, &ended.kept);
         let _ = errors.write_all(text.as_slice());
-        Ok(ended.status)
+        Ok(status)
     }
 
     /// How the inputs of the request are opened.
