@@ -17,7 +17,7 @@ docs/PYTHON.md shows more.
 """
 from __future__ import annotations
 
-__version__ = "0.3.0"
+__version__ = "0.4.0"
 
 # pylint: disable=wrong-import-position, redefined-builtin
 from .errors import CifError

@@ -10,6 +10,7 @@ pub mod FeedLines
 pub mod FeedRuns
 pub mod SpelledFeeds
 pub mod SaidLines
+pub mod WiderCodes
 pub mod SameDeletions
 pub mod ReportedReasons
 pub mod JudgedRuns

@@ -202,6 +202,10 @@ module _ {K B : Type 0} (Stops : K → Option HolidayCode → ℕ → Type 0) (w
     pub says-same : (h : Holidays) → ((code : Option HolidayCode) → Stops k code d ↔ IsHolidayOf h code d)
         → SayTheSame (of_key prepared k) (λ r. CountOn h entries k d r) d
     says-same h stops = record {
+      idle = (
+        λ none r count on. let (s, m) = back.found r count on in none s m.listed m.applies,
+        λ none s has on. let (r, m) = to.found s has on in none r m.listed m.applies,
+      );
       winners = (
         record { winner = match-wins d (of_key prepared k) (λ r. CountOn h entries k d r) to back },
         record { winner = match-wins d (λ r. CountOn h entries k d r) (of_key prepared k) back to },

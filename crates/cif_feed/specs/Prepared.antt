@@ -1,6 +1,6 @@
 -- The prepared records of published ones.
 use Rattle.std.specs.Prelude.{◌≡◌, ◌↔◌, ℕ, Bool, List, [], ◌∷◌, ◌++◌, Option, All, IsTrue, map, max, if◌then◌else◌}
-use Rattle.cif_calendar.specs.{Clash.IsClear, Runs.Runs, Terms.Records, Terms.Terms, Wins.Wins}
+use Rattle.cif_calendar.specs.{Applies.Applies, Clash.IsClear, Runs.Runs, Terms.Records, Terms.Terms, Wins.Wins}
 use Rattle.cif_feed.specs.{LastDay.last_day, Published.PublishedTerms, declared.holidays.HolidayCode.HolidayCode}
 use Rattle.cif_feed.specs.Parts.{AreParts, Part, ended}
 
@@ -46,8 +46,10 @@ pub record WinAlso {B : Type 0} (xs ys : Records B) (d : ℕ) : Type 0 where
 abbrev pub HaveSameWinners : {B : Type 0} → Records B → Records B → ℕ → Type 0
 HaveSameWinners xs ys d = WinAlso xs ys d × WinAlso ys xs d
 
--- the records of the one set say of day d what those of the other do: who wins, what runs, and whether there is a clash
+-- the records of the one set say of day d what those of the other do: whether one applies, who wins, what runs, and whether there is a
+-- clash
 pub record SayTheSame {B : Type 0} (xs ys : Records B) (d : ℕ) : Type 0 where
+  pub idle : ((r : Terms B) → xs r → ¬ Applies r d) ↔ ((r : Terms B) → ys r → ¬ Applies r d)
   pub winners : HaveSameWinners xs ys d
   pub runs : (o : Option B) → Runs xs d o ↔ Runs ys d o
   pub clear : IsClear xs d ↔ IsClear ys d

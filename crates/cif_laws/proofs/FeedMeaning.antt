@@ -57,7 +57,7 @@ module _ {K B : Type 0} (h : Holidays) (entries : List (K × PublishedTerms B)) 
       record { runs = runs-cut says days all; clear = (λ c no. absurd (false≢true (sym no)), λ c. says.clear refl) }
 
 -- what is reported of the keys, where clashes are dropped
-reported : (drops : Bool) (h : Holidays) (p : PublishedParts) (dropped : Dropped) → AreDroppedIf drops h p dropped → drops ≡ true
+pub reported : (drops : Bool) (h : Holidays) (p : PublishedParts) (dropped : Dropped) → AreDroppedIf drops h p dropped → drops ≡ true
     → AreDropped h p dropped
 reported true h p dropped are same = are
 reported false h p dropped are same = absurd (false≢true same)

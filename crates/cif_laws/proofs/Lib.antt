@@ -1,7 +1,11 @@
 pub mod FeedMeaning
 pub mod NarrowedHeaders
+pub mod FeedStates
 pub mod PreparedInputs
+pub mod FeedViews
 pub mod CanonicalFeeds
+pub mod FeedChains
+pub mod UpdateOutcomes
 pub mod ComparedFeeds
 pub mod PairsOfFeeds
 pub mod OtherKeys
@@ -12,6 +16,8 @@ pub mod ClearFeeds
 pub mod MarkedLines
 pub mod SideExtracts
 pub mod ToldByText
+pub mod TurnedAlike
+pub mod CanonicalAnswers
 pub mod AlikeEntries
 pub mod OneRecord
 pub mod FormsOfTexts

@@ -61,7 +61,7 @@ module _ {h : Holidays} {drops : Bool} {limit : ℕ} {bytes text : List ℕ} {dr
     schedules-of : x.schedules ≡ a.prepared.schedules
     schedules-of = n.schedules ∙ ap (λ (w : ExtractParts). w.schedules) (is-prepared whole spelled)
 
-    in-window : (d : ℕ) → IsWithin (window_asked asked a.published.header) d → IsWithin (header_window a.published.header) d
+    pub in-window : (d : ℕ) → IsWithin (window_asked asked a.published.header) d → IsWithin (header_window a.published.header) d
     in-window = asked-within asked a.published.header (subst (AskedDatesAreWithin asked) (own-header whole spelled) n.within)
 
     pub says : SaysWhatFeedSays (window_asked asked a.published.header) x (feed_of a)

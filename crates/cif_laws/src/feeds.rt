@@ -7,10 +7,12 @@ ghost use Rattle.cif_canon.specs.declared.{asked.Asked.Asked, comparison.Compari
 ghost use Rattle.cif_columns.specs.declared.line_reader.TheConstants.{MAX_LINES};
 ghost use Rattle.cif_extract.specs.{Body.BodyLines, ExtractParts.ExtractParts};
 ghost use Rattle.cif_feed.specs.{Changes.key_of, HolidayText.SpellHolidays, UpdateParts.UpdateParts, WrittenPrepared.IsPreparedText};
-ghost use Rattle.cif_feed.specs.PublishedParts.{PublishedParts, published_associations, published_schedules};
+ghost use Rattle.cif_feed.specs.HolidayCode.{all_codes};
+ghost use Rattle.cif_feed.specs.PublishedParts.{BytesSpellPublished, PublishedParts, published_associations, published_schedules};
 ghost use Rattle.cif_feed.specs.Updated.{IsUpdated, published_association_key, published_schedule_key};
-ghost use Rattle.cif_feed.specs.declared.{dropped.Dropped.Dropped, holidays.Holidays.Holidays};
+ghost use Rattle.cif_feed.specs.declared.{changes.Waived.Waived, dropped.Dropped.Dropped, holidays.Holidays.Holidays};
 ghost use Rattle.cif_laws.specs.Examples.{example_feed, example_holidays, example_prepared, example_prepared_canonical};
+ghost use Rattle.cif_laws.specs.FeedChains.{HasOutcome, IsChain, SaysWhatChainSays, SpellUpdates};
 ghost use Rattle.cif_laws.specs.{FeedDifferences.AreFeedDifferences, FeedDifferences.IsFeedComparison, PublishedFeed.FeedRuns};
 ghost use Rattle.cif_laws.specs.{PublishedFeed.feed_of};
 ghost use Rattle.cif_laws.specs.Feeds.{FeedsAgree, FeedsSayTheSame, IsFeedAccepted, SaysWhatFeedSays, columns_asked};
@@ -91,6 +93,22 @@ pub fn updates_leave_other_keys_alone()
         → All (λ c. (key_of published_schedule_key c.action).0 ≢ uid) u.schedules
         → FeedRuns drops h (published_schedules old.schedules) uid d o
         ↔ FeedRuns drops h (published_schedules new.schedules) uid d o }
+{}
+
+/// That there is an answer, memory and devices aside: a full extract and updates, each as it is spelled, are written, or one of
+/// the updates is refused.
+pub fn updates_have_an_outcome()
+    ensures { (how : Waived) (max : ℕ) (full : List ℕ) (old : PublishedParts) (updates : List (List ℕ)) (us : List UpdateParts)
+        → BytesSpellPublished all_codes max full old → SpellUpdates max updates us → HasOutcome how max full updates }
+{}
+
+/// The whole chain of published files, over bytes: what `normalise` writes of what `prepare` writes of what `update` writes says on each
+/// date of the window that is asked for what the last lines say that name each key, of the full extract or of the updates,
+/// with the holidays.
+pub fn chains_say_what_their_last_lines_say()
+    ensures { (how : Waived) (max limit : ℕ) (h : Holidays) (drops : Bool) (form : Form) (asked : Asked) (full first : List ℕ)
+        (others : List (List ℕ)) (canonical : List ℕ)
+        (chain : IsChain how max limit h drops form asked full first others canonical) → SaysWhatChainSays h drops asked chain }
 {}
 
 /// A feed with a holiday, the text of the holidays, what `prepare` writes of them, and its canonical bytes: what the

@@ -3,5 +3,7 @@
 #![tactic(auto)]
 
 pub mod canonical;
+pub mod canonical_answers;
+pub mod feed_views;
 pub mod feeds;
 pub mod fewest_records;

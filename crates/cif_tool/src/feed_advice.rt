@@ -1,17 +1,18 @@
 //! What `--verbose` says of `prepare` and of `update`, and of their faults.
-use crate::devices::{ExtractInput, OutputState};
+use crate::files::{ProcessFiles, ProcessOutput};
 use crate::input_advice::{FULL_FIRST, other_format};
-use crate::job::PrepareJob;
+use crate::job_advice::add_write_failure;
 use crate::line_advice::Reader;
-use crate::message::{Message, Verbosity, shown};
-use cif_columns::{LINE_WIDTH, Sink, Source};
+use crate::message::{Message, shown};
+use crate::read_input::ReadInput;
+use cif_columns::{LINE_WIDTH, Source};
+use cif_commands::{DonePrepare, DoneUpdates, Input, Output, Verbosity};
 use cif_extract::Fault;
 use cif_feed::{
     DoneUpdate, Dropped, FeedFault, KeptPrepare, KeptUpdate, ReadFeed, current_reference,
     last_reference,
 };
-use std::alloc::Global;
-use std::io::Stderr;
+use std::io::Stdout;
 
 const LENIENT: &str = "--lenient goes on after such a line";
 
@@ -25,115 +26,124 @@ const IN_THEIR_ORDER: &str = "updates stand in their order, the oldest first";
 
 // ---- prepare
 
-/// A job of `prepare` that was done, with its inputs and its output.
-#[derive(Clone, Copy)]
-pub(crate) struct DonePrepareJob<'a, 'h, 'b> {
-    pub(crate) verbosity: Verbosity,
-    pub(crate) job: &'a PrepareJob,
-    /// What became of the output.
-    pub(crate) written: &'a OutputState,
-    // Lent for as long as the extract, it would be more than the borrow checker covers.
-    pub(crate) holidays: Option<&'h Source<ExtractInput<'b>>>,
-    pub(crate) extract: &'a ExtractInput<'b>,
+/// What is said of a job of `prepare` that was done: more of its answer, or what helps with its fault.
+pub(crate) fn prepare_advice(
+    rt: HostRuntime,
+    done: &DonePrepare<'_, '_, '_, ProcessFiles, ProcessOutput>,
+    answer: &Result<Dropped, FeedFault>,
+    kept: &KeptPrepare,
+) -> Vec<u8> {
+    let mut message = Message::new(rt.alloc());
+    let extract = ReadInput {
+        rt,
+        input: done.extract,
+    };
+    match answer {
+        Ok(_) if done.verbosity == Verbosity::Help => {}
+        Ok(dropped) => {
+            add_prepared(extract, done.job.drop_clashes, dropped, kept, &mut message);
+        }
+        Err(fault) => add_unprepared(done, extract, fault, &mut message),
+    }
+    message.into_text()
 }
 
-impl DonePrepareJob<'_, '_, '_> {
-    /// Says more of the answer, or what helps with its fault.
-    pub(crate) fn advise(
-        &self,
-        alloc: Global,
-        answer: &Result<Dropped, FeedFault>,
-        kept: &KeptPrepare,
-        errors: &mut Sink<Stderr>,
-    ) {
-        let mut message = Message::new(alloc);
-        match answer {
-            Ok(_) if self.verbosity == Verbosity::Help => {}
-            Ok(dropped) => self.add_prepared(dropped, kept, &mut message),
-            Err(fault) => self.add_unprepared(fault, &mut message),
+/// Adds what was read of the extract, and how many of its records were cut: by holidays, and by clashes, if these
+/// were dropped.
+fn add_prepared(
+    input: ReadInput<'_, '_>,
+    drop_clashes: bool,
+    dropped: &Dropped,
+    kept: &KeptPrepare,
+    message: &mut Message,
+) {
+    if let Some(extract) = &kept.extract
+        && let Some(holidays) = &kept.holidays
+    {
+        let read = ReadFeed::of(extract);
+        input.add_window(&read.header, message);
+        let cut = extract.count_cut(holidays);
+        if drop_clashes {
+            let clashing = dropped.records;
+            message.line(format_args!(
+                "{input}: {read}, records cut by holidays: {cut}, records cut by clashes: {clashing}"
+            ));
+        } else {
+            message.line(format_args!("{input}: {read}, records cut by holidays: {cut}"));
         }
-        message.tell(errors);
     }
+}
 
-    /// Adds what was read of the extract, and how many of its records were cut: by holidays, and by clashes, if these
-    /// were dropped.
-    fn add_prepared(&self, dropped: &Dropped, kept: &KeptPrepare, message: &mut Message) {
-        if let Some(extract) = &kept.extract
-            && let Some(holidays) = &kept.holidays
-        {
-            let input = self.extract;
-            let read = ReadFeed::of(extract);
-            input.add_window(&read.header, message);
-            let cut = extract.count_cut(holidays);
-            if self.job.drop_clashes {
-                let clashing = dropped.records;
-                message.line(format_args!(
-                    "{input}: {read}, records cut by holidays: {cut}, records cut by clashes: {clashing}"
-                ));
-            } else {
-                message.line(format_args!("{input}: {read}, records cut by holidays: {cut}"));
-            }
-        }
-    }
-
-    /// Adds why there is no prepared extract, of the input that was read last.
-    fn add_unprepared(&self, fault: &FeedFault, message: &mut Message) {
-        let reader = Reader::Feeds {
-            has_holidays: self.holidays.is_some(),
-        };
-        match self.holidays {
-            Some(holidays) if !self.extract.is_touched() => {
-                let input = holidays.reader();
-                input.add_feed_fault(fault, reader, self.written, message);
-            }
-            _ => self
-                .extract
-                .add_feed_fault(fault, reader, self.written, message),
-        }
-    }
+/// Adds why there is no prepared extract, of the input that was read last.
+fn add_unprepared(
+    done: &DonePrepare<'_, '_, '_, ProcessFiles, ProcessOutput>,
+    extract: ReadInput<'_, '_>,
+    fault: &FeedFault,
+    message: &mut Message,
+) {
+    let reader = Reader::Feeds {
+        has_holidays: done.holidays.is_some(),
+    };
+    let last = match done.holidays {
+        Some(holidays) if !extract.input.is_touched() => ReadInput {
+            rt: extract.rt,
+            input: holidays.reader(),
+        },
+        _ => extract,
+    };
+    last.add_feed_fault(fault, reader, done.output.get_ref(), message);
 }
 
 // ---- update
 
-/// A job of `update` that was done, with its inputs and its output.
-#[derive(Clone, Copy)]
-pub(crate) struct DoneUpdateJob<'a, 'b> {
-    pub(crate) verbosity: Verbosity,
-    /// What became of the output.
-    pub(crate) written: &'a OutputState,
-    pub(crate) full: &'a ExtractInput<'b>,
-    pub(crate) updates: &'a [Source<ExtractInput<'b>>],
+/// What is said of a job of `update` that was done: more of its answer, or what helps with its fault.
+pub(crate) fn update_advice(
+    rt: HostRuntime,
+    done: &DoneUpdates<'_, '_, ProcessFiles, ProcessOutput>,
+    answer: &Result<(), FeedFault>,
+    kept: &KeptUpdate,
+) -> Vec<u8> {
+    let mut message = Message::new(rt.alloc());
+    let job = UpdateAdvice {
+        rt,
+        output: done.output.get_ref(),
+        full: done.full,
+        updates: done.updates,
+    };
+    match answer {
+        Ok(()) if done.verbosity == Verbosity::Help => {}
+        Ok(()) => job.add_updated(kept, &mut message),
+        Err(fault) => job.add_undone(fault, kept, &mut message),
+    }
+    message.into_text()
 }
 
-impl<'a, 'b> DoneUpdateJob<'a, 'b> {
-    /// Says more of the answer, or what helps with its fault.
-    pub(crate) fn advise(
-        &self,
-        alloc: Global,
-        answer: &Result<(), FeedFault>,
-        kept: &KeptUpdate,
-        errors: &mut Sink<Stderr>,
-    ) {
-        let mut message = Message::new(alloc);
-        match answer {
-            Ok(()) if self.verbosity == Verbosity::Help => {}
-            Ok(()) => self.add_updated(kept, &mut message),
-            Err(fault) => self.add_undone(fault, kept, &mut message),
-        }
-        message.tell(errors);
+/// A job of `update` that was done, with its inputs and its output.
+#[derive(Clone, Copy)]
+struct UpdateAdvice<'a, 'b> {
+    rt: HostRuntime,
+    output: &'a Output<Stdout>,
+    full: &'a Input<'b, ProcessFiles>,
+    updates: &'a [Source<Input<'b, ProcessFiles>>],
+}
+
+impl<'a, 'b> UpdateAdvice<'a, 'b> {
+    /// What advice speaks of.
+    fn read(&self, input: &'a Input<'b, ProcessFiles>) -> ReadInput<'a, 'b> {
+        ReadInput { rt: self.rt, input }
     }
 
     /// Adds what was read of the full extract, and what each update did.
     fn add_updated(&self, kept: &KeptUpdate, message: &mut Message) {
         if let Some(read) = &kept.full {
-            let full = self.full;
+            let full = self.read(self.full);
             full.add_window(&read.header, message);
             message.line(format_args!("{full}: {read}"));
             if kept.looks_prepared() {
                 message.line(format_args!("{full}: {FROM_UPDATE}"));
             }
             for (update, done) in self.updates.iter().zip(&kept.done) {
-                update.reader().add_done(done, message);
+                self.read(update.reader()).add_done(done, message);
             }
         }
     }
@@ -158,33 +168,33 @@ impl<'a, 'b> DoneUpdateJob<'a, 'b> {
             }
             _ => {
                 let reader = Reader::Feeds { has_holidays: true };
-                input.add_feed_fault(fault, reader, self.written, message);
+                input.add_feed_fault(fault, reader, self.output, message);
             }
         }
     }
 
     /// The input that was read last: the full extract, or an update.
-    fn last_touched(&self) -> &'a ExtractInput<'b> {
+    fn last_touched(&self) -> ReadInput<'a, 'b> {
         let mut last = self.full;
         for update in self.updates {
             if update.reader().is_touched() {
                 last = update.reader();
             }
         }
-        last
+        self.read(last)
     }
 }
 
 // ---- an input
 
-impl ExtractInput<'_> {
+impl ReadInput<'_, '_> {
     /// Adds what helps with a fault of a published extract or of an update, which this input gave, or the
     /// output.
     fn add_feed_fault(
         &self,
         fault: &FeedFault,
         reader: Reader,
-        written: &OutputState,
+        output: &Output<Stdout>,
         message: &mut Message,
     ) {
         match fault {
@@ -192,7 +202,7 @@ impl ExtractInput<'_> {
                 self.add_refusal(*line, *why, reader, message);
             }
             FeedFault::Extract(Fault::Read) => self.add_read_failure(message),
-            FeedFault::Extract(Fault::Write) => written.add_failure(message),
+            FeedFault::Extract(Fault::Write) => add_write_failure(output, message),
             FeedFault::Extract(_) => {}
             FeedFault::NotUpdate { line } => {
                 self.add_column(*line, 47, "must be U, of an update", message);
@@ -275,7 +285,7 @@ impl ExtractInput<'_> {
     /// Adds what is wrong with this line of holidays.
     fn add_holiday_line(&self, number: u64, message: &mut Message) {
         self.add_name(message);
-        if let Some(format) = other_format(self.start.as_slice()) {
+        if let Some(format) = other_format(self.input.start.as_slice()) {
             let format = format.split(": take").next().unwrap_or(format);
             message.line(format_args!("the holidays look like {format}"));
             if format == "JSON" {
@@ -283,7 +293,7 @@ impl ExtractInput<'_> {
             }
             return;
         }
-        if let Some(line) = self.line_again(message.alloc, number) {
+        if let Some(line) = self.line_again(number) {
             if line.add_holiday_word(message) {
                 let has_separator = |byte: &u8| matches!(byte, b',' | b'\t');
                 if line.bytes.as_slice().iter().any(has_separator) {

@@ -1,15 +1,14 @@
 //! What `--verbose` says of an input: its window, its records that clash, its lines that are refused.
-use crate::advice::reason_of;
-use crate::devices::ExtractInput;
+use crate::job_advice::reason_of;
 use crate::line_advice::Reader;
 use crate::line_again::LineAgain;
 use crate::message::Message;
+use crate::read_input::ReadInput;
 use cif_columns::{MAX_LINES, Refusal, Sink, as_text};
 use cif_extract::{Clash, Extract};
 use cif_feed::Reasons;
 use cif_records::Header;
 use cif_views::explain_view;
-use std::alloc::Global;
 use std::str;
 
 const PREPARE: &str = "cif prepare makes an extract of a published one";
@@ -54,7 +53,7 @@ pub(crate) fn other_format(start: &[u8]) -> Option<&'static str> {
     None
 }
 
-impl ExtractInput<'_> {
+impl ReadInput<'_, '_> {
     /// Adds which input it is about.
     pub(crate) fn add_name(&self, message: &mut Message) {
         message.line(format_args!("in {self}"));
@@ -62,7 +61,7 @@ impl ExtractInput<'_> {
 
     /// Adds what wasn't read, and why if the system says so.
     pub(crate) fn add_read_failure(&self, message: &mut Message) {
-        match reason_of(message.alloc, self.failure) {
+        match reason_of(message.alloc, self.input.failure) {
             Some(reason) => message.line(format_args!("in {self}: {reason}")),
             None => self.add_name(message),
         }
@@ -79,7 +78,7 @@ impl ExtractInput<'_> {
     /// Adds which input it is about, and its line of this number, if that is still known.
     pub(crate) fn add_shown(&self, number: u64, message: &mut Message) -> Option<LineAgain> {
         self.add_name(message);
-        let line = self.line_again(message.alloc, number)?;
+        let line = self.line_again(number)?;
         message.add_bytes(line.bytes.as_slice());
         Some(line)
     }
@@ -129,13 +128,13 @@ impl ExtractInput<'_> {
 
     /// Adds what the input looks like, or the commands that accept the first lines with these reasons.
     pub(crate) fn add_reasons(&self, reasons: &Reasons, message: &mut Message) {
-        if let Some(format) = other_format(self.start.as_slice()) {
+        if let Some(format) = other_format(self.input.start.as_slice()) {
             message.line(format_args!("the input looks like {format}"));
             return;
         }
         if reasons.lines(Refusal::NotFull) > 0 {
             // `prepare` refuses an update.
-            match self.line_again(message.alloc, reasons.first(Refusal::NotFull)) {
+            match self.line_again(reasons.first(Refusal::NotFull)) {
                 Some(line) if line.is_of_update() => return message.line(UPDATE),
                 None if self.header().is_none() => return,
                 _ => {}
@@ -151,8 +150,8 @@ impl ExtractInput<'_> {
             if reasons.lines(why) == 0 {
                 continue;
             }
-            let line = self.line_again(message.alloc, reasons.first(why));
-            if let Some(command) = self.command_for(message.alloc, line.as_ref(), why) {
+            let line = self.line_again(reasons.first(why));
+            if let Some(command) = self.command_for(line.as_ref(), why) {
                 if command != reported {
                     message.line(command);
                 }
@@ -171,24 +170,24 @@ impl ExtractInput<'_> {
     ) {
         self.add_name(message);
         if number == 1
-            && let Some(format) = other_format(self.start.as_slice())
+            && let Some(format) = other_format(self.input.start.as_slice())
         {
             message.line(format_args!("the input looks like {format}"));
             return;
         }
         match why {
-            Refusal::Truncated if self.start.is_empty() => message.line(EMPTY),
+            Refusal::Truncated if self.input.start.is_empty() => message.line(EMPTY),
             Refusal::Truncated => message.line("the input ends before its trailer, ZZ"),
             Refusal::TooManyLines => {
                 message.line(format_args!("an extract has at most {MAX_LINES} lines"));
             }
             _ => {
-                let line = self.line_again(message.alloc, number);
+                let line = self.line_again(number);
                 if let Some(line) = &line {
                     line.add_to(why, reader, message);
                 }
                 if reader == Reader::Extracts || why == Refusal::NotFull {
-                    if let Some(command) = self.command_for(message.alloc, line.as_ref(), why) {
+                    if let Some(command) = self.command_for(line.as_ref(), why) {
                         message.line(command);
                     }
                 }
@@ -198,12 +197,7 @@ impl ExtractInput<'_> {
 
     /// The command that accepts a line of the input which others refuse for this reason, if there is one. Of a
     /// line that isn't known only an open end decides; of a comment what stands behind it, in a file.
-    fn command_for(
-        &self,
-        alloc: Global,
-        line: Option<&LineAgain>,
-        why: Refusal,
-    ) -> Option<&'static str> {
+    fn command_for(&self, line: Option<&LineAgain>, why: Refusal) -> Option<&'static str> {
         match (why, line) {
             (Refusal::OpenEnd, _) => Some(PREPARE),
             (Refusal::BankHoliday, Some(line)) if line.has_holiday_code() => {
@@ -211,13 +205,13 @@ impl ExtractInput<'_> {
             }
             (Refusal::UnknownRecord, Some(line)) if line.is_note() => Some(PREPARE),
             (Refusal::BadLength | Refusal::UnknownRecord, Some(line)) if line.is_comment() => {
-                match self.letter_of_header(alloc) {
+                match self.letter_of_header() {
                     Some(b'F') => Some(PREPARE),
                     Some(b'U') => Some(UPDATE),
                     _ => None,
                 }
             }
-            (Refusal::NotFull, Some(line)) if line.is_of_update() => Some(match self.side {
+            (Refusal::NotFull, Some(line)) if line.is_of_update() => Some(match self.input.side {
                 "FULL" => FULL_FIRST,
                 _ => UPDATE,
             }),

@@ -1,42 +1,11 @@
-//! Lines on standard error: those of a message, and what is escaped in them.
+//! The lines of a message on standard error.
 use arrayvec::ArrayString;
-use cif_columns::{LINE_WIDTH, Sink, is_printable};
+use cif_columns::{LINE_WIDTH, is_printable};
 use std::alloc::Global;
-use std::fmt;
-use std::fmt::{Display, Formatter};
-use std::io::{IsTerminal, Stderr, Write};
+use std::fmt::Display;
+use std::io::Write;
 
-/// How much is said on standard error.
-#[derive(Clone, Copy, PartialEq, Eq)]
-pub(crate) enum Verbosity {
-    /// The fault line alone, for scripts.
-    Fault,
-    /// What helps with the fault too: standard error is a terminal.
-    Help,
-    /// What was read and done too: `--verbose`.
-    All,
-}
-
-impl Verbosity {
-    /// As much as is asked for, or as a terminal gets.
-    pub(crate) fn of(rt: HostRuntime, verbose: bool) -> Verbosity {
-        if verbose {
-            Verbosity::All
-        } else if rt.stderr().is_terminal() {
-            Verbosity::Help
-        } else {
-            Verbosity::Fault
-        }
-    }
-
-    /// Whether it is more than the fault line.
-    pub(crate) fn helps(self) -> bool {
-        self != Verbosity::Fault
-    }
-}
-
-/// The lines that follow a fault line on standard error. They are gathered, so that one write takes them
-/// all.
+/// The lines that follow those of a fault. They are gathered, so that one write takes them all.
 #[derive(Drop)]
 pub(crate) struct Message {
     pub(crate) alloc: Global,
@@ -60,34 +29,9 @@ impl Message {
         }
     }
 
-    /// Writes all lines. That they can't be written changes nothing.
-    pub(crate) fn tell(&self, errors: &mut Sink<Stderr>) {
-        let _ = errors.write_all(self.text.as_slice());
-    }
-}
-
-/// A text with what stands for its characters that hide or turn text, as those of a file's name or an argument may: for a
-/// control character `\t` or `\x1b`, and for a line separator or a mark of direction `\u{202e}`.
-#[derive(Clone, Copy)]
-pub(crate) struct Escaped<'a> {
-    pub(crate) text: &'a str,
-    /// Whether the text has lines, whose line feeds stay.
-    pub(crate) has_lines: bool,
-}
-
-impl Display for Escaped<'_> {
-    fn fmt<W: fmt::Write>(&self, f: &mut Formatter<W>) -> fmt::Result {
-        for c in self.text.chars() {
-            match c {
-                '\n' if self.has_lines => f.write_str("\n"),
-                '\t' | '\n' | '\r' | '\u{2028}'..='\u{202E}' | '\u{2066}'..='\u{2069}' => {
-                    write!(f, "{}", c.escape_default())
-                }
-                _ if c.is_control() => write!(f, "\\x{:02x}", u32::from(c)),
-                _ => write!(f, "{c}"),
-            }?;
-        }
-        Ok(())
+    /// All lines.
+    pub(crate) fn into_text(self) -> Vec<u8> {
+        self.text
     }
 }
 

@@ -1,5 +1,4 @@
 //! Which columns of a line a refusal is about, and what must stand there.
-use crate::words::day_of_word;
 use cif_columns::{Day, PublicTime, Refusal, WorkTime, is_printable};
 use cif_feed::HolidayCode;
 
@@ -113,7 +112,7 @@ pub(crate) fn holiday_refused(line: &str) -> Option<(usize, usize, &'static str)
             if is_first && !is_code {
                 return Some((first, last, "a code is X, E or G"));
             }
-            if !is_first && day_of_word(word).is_none() {
+            if !is_first && Day::from_word(word.as_bytes()).is_none() {
                 return Some((first, last, DATE_WORD));
             }
             is_first = false;

@@ -1,25 +1,28 @@
 //! What is said of a mistaken word.
-use crate::job::JobFault;
-use crate::message::{Escaped, Message, Verbosity};
+use crate::message::Message;
 use crate::refused_columns::DATE_WORD;
-use crate::words::bad_word;
-use cif_columns::Sink;
-use std::alloc::Global;
-use std::io::Stderr;
+use crate::words_of;
+use cif_commands::{Escaped, JobFault, Verbosity, bad_word};
+use std::io::IsTerminal;
 
-/// Says which of the words is mistaken, if one is, and what it must be, on a terminal or where `--verbose` is among them.
-pub(crate) fn advise_on_word(
-    alloc: Global,
-    words: &[String],
-    fault: &JobFault,
-    verbosity: Verbosity,
-    errors: &mut Sink<Stderr>,
-) {
+/// What is said of the words of the process, which ask for nothing: which of them is mistaken, if one is, and what it must be.
+pub(crate) fn word_advice(rt: HostRuntime, fault: &JobFault) -> Vec<u8> {
+    let alloc = rt.alloc();
     let mut message = Message::new(alloc);
+    if let Ok(words) = words_of(rt) {
+        add_word_advice(rt, words.as_slice(), fault, message);
+    }
+    message.into_text()
+}
+
+/// Adds what is said of these words.
+fn add_word_advice(rt: HostRuntime, words: &[String], fault: &JobFault, message: &mut Message) {
+    let alloc = rt.alloc();
+    let verbosity = Verbosity::of(rt.stderr().is_terminal(), false);
     match fault {
         JobFault::BadUid => {
             if let Some(word) = bad_word(alloc, words, fault, verbosity) {
-                add_word(word, "must be six printable ASCII characters", &mut message);
+                add_word(word, "must be six printable ASCII characters", message);
                 if word.len() == 5 {
                     message.line(
                         "a space before or behind the other five belongs to it, in quotes",
@@ -32,7 +35,7 @@ pub(crate) fn advise_on_word(
         }
         JobFault::BadDate => {
             if let Some(word) = bad_word(alloc, words, fault, verbosity) {
-                add_word(word, DATE_WORD, &mut message);
+                add_word(word, DATE_WORD, message);
             }
         }
         JobFault::BadPlace => {
@@ -52,7 +55,6 @@ pub(crate) fn advise_on_word(
         },
         _ => {}
     }
-    message.tell(errors);
 }
 
 /// Adds the mistaken word, and what it must be.

@@ -1,0 +1,54 @@
+-- The extract is prepared of the inputs of the request, and advice comes after it.
+use Rattle.cif_commands.proofs.Names.{inl, inr, refl, sym, ◌∙◌}
+use Rattle.cif_commands.proofs.OpenedInputs.{feed-inputs-of}
+use Rattle.cif_commands.specs.InputLeft.{input_remaining}
+use Rattle.cif_commands.proofs.program.Program.prepared.Goals as goal
+
+pub returns-then-not-helps : goal.returns-then-not-helps
+returns-then-not-helps g c = (
+  c.run_prepare-ended.new.errors,
+  record {
+    holidays = c.in_ok-inputs.inputs.holidays;
+    holidays_new = c.run_prepare-ended.new.holidays;
+    source = c.deref_mut.result.now;
+    source_new = c.run_prepare-ended.new.source;
+    inputs = feed-inputs-of g.F.Files.of_standard g.F.Files.of_file
+        (input_remaining g.F.Standard.Read.remaining g.F.File.Read.remaining g.F.Files.of_standard g.F.Files.of_file) _ _
+        c.opening-opening.ensures.files _ _ _ _ c.deref_mut.ensures.value c.in_ok-inputs.ensures;
+    answered = c.run_prepare-ended.result.answer;
+    kept = c.run_prepare-ended.result.kept;
+    answer = c.run_prepare-ended.ensures.answer;
+    fault = c.run_prepare-ended.ensures.fault;
+    reads = c.run_prepare-ended.ensures.reads;
+    handed_on = c.run_prepare-ended.ensures.handed_on;
+    lines = c.run_prepare-ended.ensures.reported;
+    status_is = c.run_prepare-ended.ensures.status;
+  },
+  inl refl,
+)
+
+pub returns : goal.returns
+returns g c = (
+  c.run_prepare-ended.new.errors,
+  record {
+    holidays = c.in_ok-inputs.inputs.holidays;
+    holidays_new = c.run_prepare-ended.new.holidays;
+    source = c.deref_mut.result.now;
+    source_new = c.run_prepare-ended.new.source;
+    inputs = feed-inputs-of g.F.Files.of_standard g.F.Files.of_file
+        (input_remaining g.F.Standard.Read.remaining g.F.File.Read.remaining g.F.Files.of_standard g.F.Files.of_file) _ _
+        c.opening-opening.ensures.files _ _ _ _ c.deref_mut.ensures.value c.in_ok-inputs.ensures;
+    answered = c.run_prepare-ended.result.answer;
+    kept = c.run_prepare-ended.result.kept;
+    answer = c.run_prepare-ended.ensures.answer;
+    fault = c.run_prepare-ended.ensures.fault;
+    reads = c.run_prepare-ended.ensures.reads;
+    handed_on = c.run_prepare-ended.ensures.handed_on;
+    lines = c.run_prepare-ended.ensures.reported;
+    status_is = c.run_prepare-ended.ensures.status;
+  },
+  inr (
+    sym c.opening-opening.ensures.helps ∙ sym c.helps.ensures ∙ c.if-not-helps.false,
+    (_, c.write_all.result, c.write_all.ensures),
+  ),
+)

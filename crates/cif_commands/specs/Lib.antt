@@ -1,0 +1,10 @@
+pub mod Answer
+pub mod CommandLine
+pub mod Job
+pub mod JobFault
+pub mod Status
+pub mod Reported
+pub mod Verbosity
+pub mod Input
+pub mod InputLeft
+pub mod Program

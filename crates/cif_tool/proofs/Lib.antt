@@ -1,5 +1,0 @@
-pub mod Answered
-pub mod CheckedLines
-pub mod CommandBuilt
-pub mod KnownAnswers
-pub mod Names
