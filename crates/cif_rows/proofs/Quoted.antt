@@ -1,5 +1,5 @@
 -- Texts of JSON.
-use Rattle.cif_rows.proofs.Names.{All, All-append, All-cons, All-head, All-nil, All-tail, Bool, IsPlain, IsTrue, List, [], ap, append_assoc}
+use Rattle.cif_rows.proofs.Names.{All, All-append, All-cons, All-head, All-nil, All-tail, Bool, IsPlain, IsTrue, List, [], ap, append_assoc, codes}
 use Rattle.cif_rows.proofs.Names.{arith, escape, false, false≢true, flat_map, get_or, is_escaped, length, not, refl, subst, sym, take, take_more}
 use Rattle.cif_rows.proofs.Names.{text_value, true, ℕ, ◌&&◌, ◌++◌, ◌+◌, ◌<◌, ◌∙◌, ◌∷◌, ◌≡◌}
 
@@ -32,3 +32,19 @@ in-quotes old (b ∷ text) some all =
     append_assoc (old ++ (34 ∷ [])) (b ∷ text) (34 ∷ [])
     ∙ append_assoc old (34 ∷ []) ((b ∷ text) ++ (34 ∷ []))
     ∙ ap (λ (l : List ℕ). old ++ (34 ∷ (l ++ (34 ∷ [])))) (sym (plain-text (b ∷ text) all))
+
+-- also after the name of a member
+pub member-in-quotes : (old name text : List ℕ) → 0 < length text → All IsPlain text →
+    ((((old ++ (34 ∷ [])) ++ name) ++ codes "\":\"") ++ text) ++ codes "\","
+    ≡ old ++ (((34 ∷ name) ++ (codes "\":" ++ text_value text)) ++ codes ",")
+member-in-quotes old name [] some all = absurd (omega (arith, some))
+member-in-quotes old name (b ∷ text) some all =
+    let own = b ∷ text in
+    let ending = own ++ codes "\"," in
+    append_assoc (((old ++ (34 ∷ [])) ++ name) ++ codes "\":\"") own (codes "\",")
+    ∙ append_assoc ((old ++ (34 ∷ [])) ++ name) (codes "\":\"") ending
+    ∙ append_assoc (old ++ (34 ∷ [])) name (codes "\":\"" ++ ending)
+    ∙ append_assoc old (34 ∷ []) (name ++ (codes "\":\"" ++ ending))
+    ∙ ap (λ (l : List ℕ). old ++ (34 ∷ (name ++ (codes "\":\"" ++ l))))
+      (sym (append_assoc own (34 ∷ []) (codes ",")) ∙ ap (λ (l : List ℕ). (l ++ (34 ∷ [])) ++ codes ",") (sym (plain-text own all)))
+    ∙ ap (λ (l : List ℕ). old ++ (34 ∷ l)) (sym (append_assoc name (codes "\":" ++ text_value own) (codes ",")))
