@@ -45,6 +45,7 @@ struct Shown {
 
 impl CallTimes {
     /// The times in a line of this kind.
+    #[inline(always)]
     fn of(kind: JourneyKind, line: &Line) -> CallTimes
         ensures { result ≡ times_in kind line.now }
     {
@@ -296,6 +297,7 @@ impl Journey {
     /// The moments of a line of this kind with these times, and what its activities say, if it is a public call;
     /// the journey goes on behind it.
     // Many calls have no public time, and their activities aren't looked at.
+    #[inline(always)]
     fn step(&mut self, times: &CallTimes, kind: JourneyKind, line: &Line) -> Option<(Shown, Riders)>
         requires { (n : ℕ) × (n ≤ 2 ^ 64) × IsJourneyBy n self.old }
         ensures exact { (self.new, shown_in result) ≡ step self.old times.now (riders_in kind line.now) }

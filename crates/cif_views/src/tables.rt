@@ -16,7 +16,7 @@ use crate::columns::{
     ASSOCIATION, BASIC, CALL, CHANGE, Column, EXTRA, HEADER, JourneyKind, NUMBERS, PUBLIC, TIPLOC,
     call_after, extra_among, kind_of_line,
 };
-use crate::line_fields::{push_each, push_names, push_of_copy};
+use crate::line_fields::{push_each, push_names, push_text};
 use crate::public_calls::write_public_calls;
 use cif_canon::writing::answer;
 use cif_canon::{Canon, CanonListing, CanonSchedule};
@@ -333,19 +333,19 @@ fn push_fields_of_call<const KIND: usize, F: RowFormat>(rows: &mut Rows<F>, line
 {
     let kind = call_kind(KIND);
     let columns = &CALL;
-    push_of_copy(rows, &columns[0], kind, *line);
-    push_of_copy(rows, &columns[1], kind, *line);
-    push_of_copy(rows, &columns[2], kind, *line);
-    push_of_copy(rows, &columns[3], kind, *line);
-    push_of_copy(rows, &columns[4], kind, *line);
-    push_of_copy(rows, &columns[5], kind, *line);
-    push_of_copy(rows, &columns[6], kind, *line);
-    push_of_copy(rows, &columns[7], kind, *line);
-    push_of_copy(rows, &columns[8], kind, *line);
-    push_of_copy(rows, &columns[9], kind, *line);
-    push_of_copy(rows, &columns[10], kind, *line);
-    push_of_copy(rows, &columns[11], kind, *line);
-    push_of_copy(rows, &columns[12], kind, *line);
-    push_of_copy(rows, &columns[13], kind, *line);
-    push_of_copy(rows, &columns[14], kind, *line);
+    push_text(rows, &columns[0], kind, *line);
+    push_text(rows, &columns[1], kind, *line);
+    push_text(rows, &columns[2], kind, *line);
+    push_text(rows, &columns[3], kind, *line);
+    push_text(rows, &columns[4], kind, *line);
+    push_text(rows, &columns[5], kind, *line);
+    push_text(rows, &columns[6], kind, *line);
+    push_text(rows, &columns[7], kind, *line);
+    push_text(rows, &columns[8], kind, *line);
+    push_text(rows, &columns[9], kind, *line);
+    push_text(rows, &columns[10], kind, *line);
+    push_text(rows, &columns[11], kind, *line);
+    push_text(rows, &columns[12], kind, *line);
+    push_text(rows, &columns[13], kind, *line);
+    push_text(rows, &columns[14], kind, *line);
 }

@@ -3,7 +3,7 @@ use Rattle.cif_views.proofs.Names.{subst, sym, ◌-◌}
 use Rattle.cif_rows.specs.Steps.{IsPlain}
 use Rattle.std.proofs.lemmas.List.Elements.{All-drop, All-take}
 use Rattle.std.specs.Prelude.{All}
-use Rattle.cif_views.proofs.line_fields.push_of_copy.Goals as goal
+use Rattle.cif_views.proofs.line_fields.push_text.Goals as goal
 
 pub push_plain_within-requires-clause-plain : goal.push_plain_within-requires-clause-plain
 push_plain_within-requires-clause-plain g c json =
