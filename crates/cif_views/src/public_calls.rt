@@ -79,6 +79,7 @@ impl CallTimes {
 
     /// When the call is reached and left, behind the moment at which the call before was left; `None` if it
     /// isn't timed.
+    #[inline(always)]
     fn stay(&self, before: Option<Moment>) -> Option<Stay>
         requires { (n : ℕ) × (n ≤ 2 ^ 64) × IfSome before (IsBy n) }
         ensures exact { result ≡ stay before self.now }
@@ -94,6 +95,7 @@ impl CallTimes {
     }
 
     /// The moments of its public times, none of them before this one; `None` if it has no public time.
+    #[inline(always)]
     fn shown(&self, before: Moment, stay: &Stay) -> Option<Shown>
         requires reached { IsOnTheWay stay.now.reached }
         requires left { IsOnTheWay stay.now.left }

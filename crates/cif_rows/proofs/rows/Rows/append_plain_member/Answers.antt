@@ -14,11 +14,11 @@ returns-else-count-eq0-clause-text g c =
     let long = ap length whole in
     let all : length c.as_bytes.result.now ≤ length name = omega (arith, long) in
     let named = take_all (length name) c.as_bytes.result.now all ∙ whole in
-    c.put-self-inside-else-count-eq0.ensures.text
-    ∙ ap (λ (l : List ℕ). l ++ codes "\",") (c.put-at-else-count-eq0-2.ensures.text
-    ∙ ap (λ (l : List ℕ). l ++ text) (c.put-at-else-count-eq0.ensures.text
-    ∙ ap (λ (l : List ℕ). l ++ codes "\":\"") (c.put-at-2.ensures.text
-    ∙ ap (λ (l : List ℕ). l ++ take (length name) c.as_bytes.result.now) (c.put-at.ensures.text
+    c.put_array-self-inside-else-count-eq0.ensures.text
+    ∙ ap (λ (l : List ℕ). l ++ codes "\",") (c.put-at-else-count-eq0.ensures.text
+    ∙ ap (λ (l : List ℕ). l ++ text) (c.put_array-at-else-count-eq0.ensures.text
+    ∙ ap (λ (l : List ℕ). l ++ codes "\":\"") (c.put-at.ensures.text
+    ∙ ap (λ (l : List ℕ). l ++ take (length name) c.as_bytes.result.now) (c.put_array-at.ensures.text
     ∙ ap (λ (l : List ℕ). l ++ (34 ∷ [])) c.self.view_is)
     ∙ ap (λ (l : List ℕ). (c.args.self.now ++ (34 ∷ [])) ++ l) named)))
     ∙ member-in-quotes c.args.self.now name text (omega (arith, kept, c.if-count-eq0.false))
