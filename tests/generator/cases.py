@@ -2,19 +2,24 @@
 from __future__ import annotations
 
 import re
+from dataclasses import replace
+from datetime import date
 from random import Random
 from typing import List, NamedTuple, Optional, Sequence, Tuple
 
 from reference.answers import OF_BOARDS, OF_FEEDS, OF_TWO, OPTIONS, Inputs, Job
+from reference.boards import NO, PublicCall, calls_of
 from reference.dates import DAY, Window, from_yymmdd, yymmdd
-from reference.tables import CALLS, TABLES
+from reference.extracts import Body
+from reference.tables import TABLES
 
 from .damage import damaged
 from .derived import changed_once, said_otherwise, with_other_bodies
 from .feeds import OfSmall, some_feed
+from .fields import for_riders
 from .published import spelled_as_published
 from .spelling import some_habits, spelled
-from .timetables import UIDS, Record, Timetable, some_header, some_timetable
+from .timetables import LOCATIONS, UIDS, Record, Timetable, some_header, some_timetable
 from .windows import Odds, bounded, some_day, some_window, with_one_end_moved
 
 
@@ -165,43 +170,103 @@ def uid_word(rng: Random, records: List[Record], odds: Odds) -> str:
     return rng.choice(UIDS)
 
 
-def public_places(record: Record) -> List[str]:
-    """The locations at which a train of this record calls in public, if it can be a word."""
-    calls = [dict(fields) for kind, fields in record.body.lines if kind in CALLS]
-    return [
-        call["location"].strip(" ")
-        for call in calls
-        if any(
-            call.get(name, "    ").strip(" 0") for name in ("public_arrival", "public_departure")
-        )
+class Shown(NamedTuple):
+    """A call that a board may show: the train's date and its public calls, which of them it is, and its date by the clock."""
+
+    train_date: date
+    calls: Sequence[PublicCall]
+    at: int
+    day: date
+
+    @property
+    def place(self) -> str:
+        return self.calls[self.at].location
+
+
+def calls_of_record(record: Record) -> List[PublicCall]:
+    """The public calls of a train."""
+    return calls_of(Body(record.body.fields, tuple(record.lines()[1:])))
+
+
+def runs_on(timetable: Timetable, record: Record, day: date) -> bool:
+    """Whether no record with a letter before its own stands above the record of a train on the date, on which it applies."""
+    return record.applies(day) and not any(
+        other.letter < record.letter and other.applies(day)
+        for other in timetable.schedules
+        if other.key == record.key
+    )
+
+
+def with_riders(rng: Random, timetable: Timetable) -> Timetable:
+    """The timetable, most of whose trains call at a few places for riders."""
+    places = tuple(location for location in LOCATIONS if is_word(location.rstrip(" ")))
+    bodies = {record.body for record in timetable.schedules if record.letter != "C"}
+    opened = {
+        body: for_riders(rng, body, places) if rng.random() < 0.9 else body
+        for body in sorted(bodies, key=lambda body: (body.fields, body.lines))
+    }
+    found = timetable.copy()
+    found.schedules = [
+        replace(record, body=opened.get(record.body, record.body)) for record in timetable.schedules
     ]
+    return found
+
+
+def is_word(text: str) -> bool:
+    return re.fullmatch("[!-,.-~][!-~]*", text) is not None
+
+
+def shown_calls(rng: Random, timetable: Timetable, arrivals: bool) -> List[Shown]:
+    """Calls that a board shows, of each train on some date of the window."""
+    first, last = timetable.window
+    found = []
+    for record in timetable.schedules:
+        days = [max(record.first, first) + number * DAY for number in range(14)]
+        days = [day for day in days if day <= last and runs_on(timetable, record, day)]
+        if record.letter == "C" or not days:
+            continue
+        train_date, calls = rng.choice(days), calls_of_record(record)
+        for at, call in enumerate(calls):
+            allowed, moment = (
+                (call.set_down, call.arrival) if arrivals else (call.pick_up, call.departure)
+            )
+            day = train_date + int(moment.split(":")[0]) // 24 * DAY
+            if allowed != NO and day <= last and is_word(call.location):
+                found.append(Shown(train_date, calls, at, day))
+    return found
 
 
 def place_word(rng: Random, timetable: Timetable, places: List[str], odds: Odds) -> str:
     """One of these places, or a CRS code of the extract, in capitals or not; or a word that is no place."""
     if rng.random() < odds["no place"]:
         return rng.choice(BAD_PLACE_WORDS)
-    codes = [tiploc[51:54] for tiploc in timetable.tiplocs] if rng.random() < 0.3 else []
-    known = [word for word in places + codes if re.fullmatch("[!-,.-~][!-~]*", word)]
+    codes = [
+        tiploc[51:54]
+        for tiploc in timetable.tiplocs
+        if rng.random() < 0.3 and (tiploc[:7].rstrip(" ") in places or not places)
+    ]
+    known = [word for word in places + codes if is_word(word)]
     word = rng.choice(known if known and rng.random() < 0.95 else ["NOWHERE", "ABD", "~"])
     return word.lower() if rng.random() < 0.2 else word
 
 
 def with_board(rng: Random, job: Job, timetable: Timetable, options: bool, odds: Odds) -> Job:
-    """The job with a place and a date: often those of a call of a train that runs on it, or of one that ran the day before."""
-    first, last = timetable.window
-    days = [(one, max(one.first, first) + rng.randrange(14) * DAY) for one in timetable.schedules]
-    apply = [(one, day) for one, day in days if day <= last and one.applies(day)]
-    places = [place for one in timetable.schedules for place in public_places(one)]
-    day = date_word(rng, timetable.window, odds)
-    found = [(place, on) for one, on in apply for place in public_places(one)]
-    if found and rng.random() < 0.8:
-        place, on = rng.choice(found)
-        places, day = [place], yymmdd(on + rng.choice([0, 0, 0, 1]) * DAY)
+    """The job with a place and a date: mostly those of a call that the board shows, and often one after midnight."""
+    found = shown_calls(rng, timetable, job.command == "arrivals")
+    late = [one for one in found if one.day > one.train_date]
+    going_on = [
+        one for one in found if any(call.set_down != NO for call in one.calls[one.at + 1 :])
+    ]
+    places, day = [one.place for one in found], date_word(rng, timetable.window, odds)
+    goals, has_goal = places, options and job.command == "departures" and rng.random() < 0.3
+    if found and rng.random() < 0.9:
+        likely = (has_goal and going_on) or (rng.random() < 0.4 and late) or found
+        one = rng.choice(likely)
+        places, day = [one.place], yymmdd(one.day)
+        goals = [call.location for call in one.calls[one.at + 1 :] if call.set_down != NO]
     job = job._replace(place=place_word(rng, timetable, places, odds), day=day)
-    if options and job.command == "departures" and rng.random() < 0.3:
-        places = [place for one in timetable.schedules for place in public_places(one)]
-        job = job._replace(calling_at=place_word(rng, timetable, places, odds))
+    if has_goal:
+        job = job._replace(calling_at=place_word(rng, timetable, goals, odds))
     return job
 
 
@@ -388,6 +453,8 @@ def some_case(rng: Random, commands: List[str], options: bool, odds: Odds) -> Ca
         return Case(job._replace(verbose=options and rng.random() < 0.5), inputs, None)
     clashes = rng.choice(CLASHES) if command in OF_CLASHES else odds.get("clash")
     timetable = some_timetable(rng, clashes)
+    if command in OF_BOARDS and rng.random() < 0.9:
+        timetable = with_riders(rng, timetable)
     job = some_job(rng, command, timetable, options, odds)
     inputs, sound = some_inputs(rng, job, timetable, odds)
     if (

@@ -116,6 +116,32 @@ def full_body(rng: Random, kind: str) -> Body:
     return Body(made(rng, "BS", TRAIN_BODY), tuple((kind, made(rng, kind)) for kind in lines))
 
 
+def for_riders(rng: Random, body: Body, places: Tuple[str, ...]) -> Body:
+    """The body, with calls for riders at these places."""
+
+    def of_call(name: str, before: str) -> str:
+        made_again = {
+            "location": rng.choice(places),
+            "suffix": " ",
+            "activities": rng.choice(("T", "T", "T", "", "D", "U", "T R", "TBTF", "N")).ljust(12),
+        }
+        if name in ("public_arrival", "public_departure"):
+            return f"{rng.randrange(24):02}{rng.randrange(1, 60):02}"
+        if name in ("arrival", "departure") and not before.strip(" "):
+            return hour_and_minute(rng) + " "
+        return made_again.get(name, before)
+
+    return replace(
+        body,
+        lines=tuple(
+            (kind, tuple((name, of_call(name, before)) for name, before in fields))
+            if kind in ("LO", "LI", "LT")
+            else (kind, fields)
+            for kind, fields in body.lines
+        ),
+    )
+
+
 def with_another_field(rng: Random, kind: str, fields: Pairs) -> Pairs:
     """The fields with another text in one of them."""
     at = rng.randrange(len(fields))

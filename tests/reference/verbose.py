@@ -12,6 +12,7 @@ from .extracts import COMMENT, NOTES, Extract, Record, contents_of
 from .faults import Fault, Reader, Refusal
 from .holidays import WIDTH
 from .layouts import Fields
+from .places import place_of
 from .published import count_clashing, count_cut, count_open_ends, transaction_of
 
 if TYPE_CHECKING:
@@ -212,7 +213,23 @@ def of_extracts(
     if job.uid and is_missing:
         known = has_schedule or any(job.uid in entry.key[:2] for entry in extracts[0].associations)
         said.append("there are records with this UID" if known else "no record has this UID")
+    if job.place is not None and len(lines) == (job.format == "tsv"):
+        places = [place_of(word) for word in (job.place, job.calling_at)]
+        said += [
+            f"no location has the code {place}"
+            for place in places
+            if place is not None and not is_known(extracts[0], place)
+        ]
     return said
+
+
+def is_known(extract: Extract, place: str) -> bool:
+    """Whether a TI has the place as its TIPLOC or CRS code, or a line of a train is there."""
+    location = place.ljust(7)
+    lines = [line for one in extract.schedules if one.body for line in one.body.lines]
+    return any(
+        tiploc[:7] == location or tiploc[51:54] == place for tiploc in extract.tiplocs
+    ) or any(line[2:9] == location for line in lines)
 
 
 def of_feed(one: Input, records: List[Record], more: str) -> List[str]:

@@ -224,6 +224,13 @@ impl<'a> CanonRecord<'a, Uid, Body> {
         self.body
     }
 
+    /// The first date on which it runs.
+    pub fn first(&self) -> Day
+        ensures { result ≡ self.now.1.first }
+    {
+        self.run.first
+    }
+
     /// Whether it runs on the day.
     pub fn runs_on(&self, day: Day) -> bool
         ensures { IsTrue result ↔ Applies self.now.1 day }

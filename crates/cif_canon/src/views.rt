@@ -98,7 +98,8 @@ impl DayLines for TextLines {
     ) {
         let mut rows = Rows::<Padded>::new();
         rows.begin_row(sink);
-        push_association_row(&mut rows, key, body, sink);
+        rows.make_room(sink);
+        push_association_row(&mut rows, key, body);
         rows.end_row(sink);
         rows.finish(sink);
     }
@@ -106,7 +107,8 @@ impl DayLines for TextLines {
     fn write_train<W: WriteDevice>(&self, uid: &Uid, body: &Body, sink: &mut Sink<W>) {
         let mut rows = Rows::<Padded>::new();
         rows.begin_row(sink);
-        push_train_row(&mut rows, uid, body, sink);
+        rows.make_room(sink);
+        push_train_row(&mut rows, uid, body);
         rows.end_row(sink);
         rows.finish(sink);
     }
@@ -125,7 +127,8 @@ impl TrainLines for TextLines {
     fn write_schedule<W: WriteDevice>(&self, run: &Run, body: &Body, sink: &mut Sink<W>) {
         let mut rows = Rows::<Padded>::new();
         rows.begin_row(sink);
-        push_schedule_row(&mut rows, run, body, sink);
+        rows.make_room(sink);
+        push_schedule_row(&mut rows, run, body);
         rows.end_row(sink);
         rows.finish(sink);
     }

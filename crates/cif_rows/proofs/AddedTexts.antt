@@ -48,6 +48,11 @@ module _ {W : Type 0} (contents : W → Option (List ℕ)) (errors : W → Optio
   added-all text s t u w x h last =
       text-is contents errors _ _ s u (sym h.text_is) (both contents errors h.out x s t u h.written last)
 
+  -- bytes for which room was made
+  pub added-after : (text : List ℕ) (s t : Sink W) (w x y : List ℕ) → Adds contents errors [] s t w x → y ≡ x ++ text →
+      Adds contents errors text s t w y
+  added-after text s t w x y made is = added-both [] text s t t w x y made (added-waits text t x y is)
+
 -- a text without its last byte, after another text
 pub without_last-append : (a b : List ℕ) → 0 < length b → without_last (a ++ b) ≡ a ++ without_last b
 without_last-append a b some =
@@ -217,6 +222,17 @@ module _ {W : Type 0} (contents : W → Option (List ℕ)) (errors : W → Optio
       IsAppended contents errors x t u → IsAppended contents errors text s u
   all-written text s t u w x none h last =
       text-is contents errors _ _ s u (ap (λ (l : List ℕ). l ++ text) none) (added-all contents errors text s t u w x h last)
+
+-- fields for which there is room
+module _ (format : Format) (old x y : List ℕ) where
+  pub field-after : (f : Field) → x ≡ old ++ field_text format f → x ≡ old ++ fields_text format (f ∷ [])
+  field-after f is = is ∙ ap (λ (l : List ℕ). old ++ l) (sym (append-nil (field_text format f)))
+
+  pub fields-after : (fs gs : List Field) → x ≡ old ++ fields_text format fs → y ≡ x ++ fields_text format gs →
+      y ≡ old ++ fields_text format (fs ++ gs)
+  fields-after fs gs one other =
+      other ∙ ap (λ (l : List ℕ). l ++ fields_text format gs) one ∙ append_assoc old (fields_text format fs) (fields_text format gs)
+      ∙ ap (λ (l : List ℕ). old ++ l) (sym (flat_map-append (field_text format) fs gs))
 
 -- three fields
 module _ {W : Type 0} (contents : W → Option (List ℕ)) (errors : W → Option ℕ) (format : Format) where

@@ -12,5 +12,5 @@ mod shape;
 
 pub use format::{Format, Json, Padded, RowFormat, Tsv};
 pub use numeral::Numeral;
-pub use rows::{GivenField, Rows};
+pub use rows::{GivenField, Rows, is_plain};
 pub use shape::{Padding, Shape, long_date};

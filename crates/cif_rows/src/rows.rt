@@ -1,9 +1,9 @@
 //! Rows that are written field by field, through a buffer.
-ghost use Rattle.std.specs.Prelude.{◌≡◌, ◌<◌, ◌≤◌, ◌+◌, ◌*◌, ◌++◌, ◌∷◌, [], All, IsTrue, codes, drop, length, map, take};
+ghost use Rattle.std.specs.Prelude.{◌≡◌, ◌<◌, ◌≤◌, ◌+◌, ◌*◌, ◌++◌, ◌∷◌, [], All, IsTrue, codes, cond, drop, length, map, take};
 ghost use Rattle.std.specs.List.{flat_map};
 ghost use Rattle.cif_rows.specs.{Adds.Adds, Appended.IsAppended};
-ghost use Rattle.cif_rows.specs.Row.{absent, cell, escape, is_escaped, member, number_field, padded, text_value, value_text, without_last};
-ghost use Rattle.cif_rows.specs.declared.shape.{Padding.TheVariants.Apart, Shape.TheVariants.Number};
+ghost use Rattle.cif_rows.specs.Row.{absent, cell, escape, is_escaped, member, named, number_field, padded, text, text_value, value_text, without_last};
+ghost use Rattle.cif_rows.specs.declared.{format.Format.TheVariants.Json, shape.Padding.TheVariants.Apart, shape.Shape.TheVariants.Number};
 ghost use Rattle.cif_rows.specs.Steps.{AreOfShape, IsOfShape, IsPlain, are_short, closing, field_text, fields_of, fields_text, name_text};
 ghost use Rattle.cif_rows.specs.Steps.{names_ended, names_text, opening, room_for, texts, width_of};
 
@@ -60,9 +60,7 @@ impl<F: RowFormat> Rows<F> {
         requires room { length self.old + length columns.now ≤ ROOM }
         ensures { self.new ≡ self.old ++ take count columns.now }
     {
-        let start = self.len;
-        self.bytes[start..start + columns.len()].copy_from_slice(columns);
-        self.len = start + count;
+        self.len = put(&mut self.bytes, self.len, columns, count);
     }
 
     /// Appends a byte.
@@ -200,16 +198,17 @@ impl<F: RowFormat> Rows<F> {
         self.append_digits(digits, digits.len());
     }
 
-    /// Appends a member of an object.
+    /// Appends a member of an object, and a comma.
     #[inline(always)]
     fn append_member(&mut self, name: &str, shape: Shape, columns: &[u8])
         requires field { IsOfShape shape columns.now }
-        requires room { length self.old + length name.now + 2 * width_of shape columns.now + 7 ≤ ROOM }
-        ensures text { self.new ≡ self.old ++ ((34 ∷ name.now) ++ (codes "\":" ++ value_text shape (cell shape columns.now))) }
-        ensures len { length self.new ≤ length self.old + length name.now + 2 * width_of shape columns.now + 7 }
+        requires room { length self.old + length name.now + 2 * width_of shape columns.now + 8 ≤ ROOM }
+        ensures text { self.new ≡ self.old ++ (((34 ∷ name.now) ++ (codes "\":" ++ value_text shape (cell shape columns.now))) ++ codes ",") }
+        ensures len { length self.new ≤ length self.old + length name.now + 2 * width_of shape columns.now + 8 }
     {
         self.append_name(name);
         self.append_value(shape, columns);
+        self.append_byte(b',');
     }
 
     /// Appends the name of a member, up to its value.
@@ -218,9 +217,31 @@ impl<F: RowFormat> Rows<F> {
         requires room { length self.old + length name.now + 3 ≤ ROOM }
         ensures { self.new ≡ self.old ++ ((34 ∷ name.now) ++ codes "\":") }
     {
-        self.append_byte(b'"');
-        self.append_all(name.as_bytes());
-        self.append_all(b"\":");
+        let bytes = &mut self.bytes;
+        let at = put_array(bytes, self.len, *b"\"");
+        let at = put(bytes, at, name.as_bytes(), name.len());
+        self.len = put_array(bytes, at, *b"\":");
+    }
+
+    /// Appends a member of an object whose text are the first `count` of these columns, and a comma.
+    #[inline(always)]
+    fn append_plain_member(&mut self, name: &str, columns: &[u8], count: usize)
+        requires count { count ≤ length columns.now }
+        requires plain { All IsPlain columns.now }
+        requires room { length self.old + length name.now + length columns.now + 8 ≤ ROOM }
+        ensures text { self.new ≡ self.old ++ (((34 ∷ name.now) ++ (codes "\":" ++ text_value (take count columns.now))) ++ codes ",") }
+        ensures len { length self.new ≤ length self.old + length name.now + length columns.now + 8 }
+    {
+        let bytes = &mut self.bytes;
+        let at = put_array(bytes, self.len, *b"\"");
+        let at = put(bytes, at, name.as_bytes(), name.len());
+        if count == 0 {
+            self.len = put_array(bytes, at, *b"\":null,");
+        } else {
+            let at = put_array(bytes, at, *b"\":\"");
+            let at = put(bytes, at, columns, count);
+            self.len = put_array(bytes, at, *b"\",");
+        }
     }
 
     /// Appends a field, for which there is room.
@@ -238,10 +259,23 @@ impl<F: RowFormat> Rows<F> {
                 self.append_cell(shape, columns);
                 self.append_byte(b'\t');
             }
-            Format::Json => {
-                self.append_member(name, shape, columns);
-                self.append_byte(b',');
+            Format::Json => self.append_member(name, shape, columns),
+        }
+    }
+
+    /// Appends a text that JSON shows as it is, for which there is room.
+    #[inline(always)]
+    pub fn push_plain_within(&mut self, name: &str, columns: &[u8])
+        requires plain { F.FORMAT ≡ Json → All IsPlain columns.now }
+        requires room { length self.old + length name.now + 2 * length columns.now + 8 ≤ ROOM }
+        ensures text { self.new ≡ self.old ++ field_text F.FORMAT (named name.now (text columns.now)) }
+        ensures len { length self.new ≤ length self.old + length name.now + 2 * length columns.now + 8 }
+    {
+        match F::FORMAT {
+            Format::Text | Format::Tsv => {
+                self.push_within(name, Padding::Apart, Shape::Trimmed, columns)
             }
+            Format::Json => self.append_plain_member(name, columns, used_columns(columns)),
         }
     }
 
@@ -319,6 +353,7 @@ impl<F: RowFormat> Rows<F> {
     }
 
     /// Adds a field to the row.
+    #[inline(always)]
     pub fn push<W: WriteDevice>(
         &mut self,
         sink: &mut Sink<W>,
@@ -434,15 +469,16 @@ impl<F: RowFormat> Rows<F> {
         ensures { Adds W.contents W.write_errors (fields_text F.FORMAT (fields_of fields.now)) sink.old sink.new self.old self.new }
     {
         self.make_room(sink);
-        self.push_all(fields);
+        self.push_fields_within(fields);
     }
 
     /// Adds fields, for which there is room.
     #[inline(always)]
-    fn push_all(&mut self, fields: &[GivenField<'_>])
+    pub fn push_fields_within(&mut self, fields: &[GivenField<'_>])
         requires fields { AreOfShape (fields_of fields.now) }
         requires room { length self.old + room_for (fields_of fields.now) ≤ ROOM }
-        ensures { self.new ≡ self.old ++ fields_text F.FORMAT (fields_of fields.now) }
+        ensures text { self.new ≡ self.old ++ fields_text F.FORMAT (fields_of fields.now) }
+        ensures len { length self.new ≤ length self.old + room_for (fields_of fields.now) }
     {
         for field in fields {
             self.push_within(field.0, field.1, field.2, field.3);
@@ -451,13 +487,34 @@ impl<F: RowFormat> Rows<F> {
 
     /// Adds empty fields that the record doesn't have.
     pub fn push_absent<W: WriteDevice>(&mut self, sink: &mut Sink<W>, names: &[&str])
-        requires short { IsTrue (are_short (texts names.now)) }
+        requires narrow { room_for (map absent (texts names.now)) ≤ FULL }
         ensures { Adds W.contents W.write_errors (fields_text F.FORMAT (map absent (texts names.now)))
             sink.old sink.new self.old self.new }
     {
+        self.make_room(sink);
+        self.push_absent_within(names);
+    }
+
+    /// Adds empty fields that the record doesn't have, for which there is room.
+    #[inline(always)]
+    pub fn push_absent_within(&mut self, names: &[&str])
+        requires room { length self.old + room_for (map absent (texts names.now)) ≤ ROOM }
+        ensures text { self.new ≡ self.old ++ fields_text F.FORMAT (map absent (texts names.now)) }
+        ensures len { length self.new ≤ length self.old + room_for (map absent (texts names.now)) }
+    {
         for name in names {
-            self.push(sink, name, Padding::Hidden, Shape::Trimmed, b"");
+            self.push_within(name, Padding::Hidden, Shape::Trimmed, b"");
         }
+    }
+
+    /// Adds fields that were added to other rows, which have nothing else.
+    #[inline(always)]
+    pub fn push_kept<W: WriteDevice>(&mut self, sink: &mut Sink<W>, kept: &Rows<F>)
+        requires narrow { length kept.now ≤ FULL }
+        ensures { Adds W.contents W.write_errors kept.now sink.old sink.new self.old self.new }
+    {
+        self.make_room(sink);
+        self.append_all(&kept.bytes[..kept.len]);
     }
 
     /// Adds the names of fields, if names stand before the rows.
@@ -519,16 +576,48 @@ impl<F: RowFormat> Rows<F> {
     }
 }
 
-/// Whether the bytes stand in a text of JSON as they are.
+/// Copies columns to this place, and returns the place after the first `count` of them.
 #[inline(always)]
-fn is_plain(bytes: &[u8]) -> bool
+fn put(bytes: &mut [u8; ROOM], at: usize, columns: &[u8], count: usize) -> usize
+    requires count { count ≤ length columns.now }
+    requires room { at + length columns.now ≤ ROOM }
+    ensures text { take result bytes.new ≡ take at bytes.old ++ take count columns.now }
+    ensures at { result ≡ at + count }
+{
+    bytes[at..at + columns.len()].copy_from_slice(columns);
+    at + count
+}
+
+/// Puts letters at this place, and returns the place after them.
+// The compiler knows that a copy is no part of the bytes.
+#[inline(always)]
+fn put_array<const N: usize>(bytes: &mut [u8; ROOM], at: usize, letters: [u8; N]) -> usize
+    requires { at + N ≤ ROOM }
+    ensures text { take result bytes.new ≡ take at bytes.old ++ letters.entry }
+    ensures at { result ≡ at + N }
+{
+    put(bytes, at, &letters, N)
+}
+
+/// Whether the bytes stand in a text of JSON as they are.
+// No branch depends on a byte, so that the compiler can take sixteen of them at a time.
+#[inline(always)]
+pub fn is_plain(bytes: &[u8]) -> bool
     ensures { IsTrue result → All IsPlain bytes.now }
 {
-    let mut plain = true;
+    let mut escaped = 0u8;
     for byte in bytes {
-        plain &= !is_escaped(*byte);
+        escaped = escaped.max(escape_mark(*byte));
     }
-    plain
+    escaped == 0
+}
+
+/// 1 if a text of JSON has a backslash before this byte, and else 0.
+#[inline(always)]
+fn escape_mark(byte: u8) -> u8
+    ensures { result ≡ cond (is_escaped byte) 1 0 }
+{
+    if is_escaped(byte) { 1 } else { 0 }
 }
 
 /// Whether a text of JSON has a backslash before this byte.

@@ -7,6 +7,7 @@ use cif_columns::Uid;
 use cif_commands::{DoneJob, Job, Kept, Output, Verbosity};
 use cif_extract::{Clash, Extract, Fault};
 use cif_rows::Format;
+use cif_views::{Board, Locations, Place, are_at, tiploc_of};
 use std::alloc::Global;
 use std::io;
 use std::io::Stdout;
@@ -67,6 +68,9 @@ impl JobAdvice<'_, '_> {
                 }
                 Job::Calendar(job) if !has_schedule(extract, &job.uid) => {
                     add_records_of(extract, &job.uid, message);
+                }
+                Job::Board(job) if !has_row(self.output, job.format) => {
+                    add_unknown_places(extract, &job.board, message);
                 }
                 _ => {}
             }
@@ -143,6 +147,32 @@ fn add_records_of(extract: &Extract, uid: &Uid, message: &mut Message) {
     } else {
         "no record has this UID"
     });
+}
+
+/// Adds the places of a board that the extract has nothing of.
+fn add_unknown_places(extract: &Extract, board: &Board, message: &mut Message) {
+    add_unless_known(extract, &board.place, message);
+    if let Some(place) = &board.calling_at {
+        add_unless_known(extract, place, message);
+    }
+}
+
+/// Adds that no location has the code, if no TI and no line of a train has the place.
+fn add_unless_known(extract: &Extract, place: &Place, message: &mut Message) {
+    let Ok(locations) = Locations::of(message.alloc, extract.tiplocs.as_slice(), place) else {
+        return;
+    };
+    let mut tiplocs = extract.tiplocs.as_slice().iter();
+    let mut schedules = extract.schedules.as_slice().iter();
+    let is_known = tiplocs.any(|one| locations.has(&tiploc_of(one)))
+        || schedules.any(|one| match &one.body {
+            Some(body) => are_at(body.further_lines(), &locations),
+            None => false,
+        });
+    if !is_known {
+        let code = str::from_utf8(&place.tiploc).unwrap_or("").trim_end();
+        message.line(format_args!("no location has the code {code}"));
+    }
 }
 
 /// Whether there is a line in the output that isn't the heading of a table.

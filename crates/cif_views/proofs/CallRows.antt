@@ -1,6 +1,6 @@
 -- The rows of trains and their calls, as they are added.
 use Rattle.cif_views.proofs.Names.{List, Option, [], ap, append-nil, append_assoc, arith, call_names, call_text, codes, drop, fields_of_call, flat_map}
-use Rattle.cif_views.proofs.Names.{flat_map-append, flat_map-map, length, length-append, length-map, listed_fields, map, nested_fields, no_call_text, refl, sym}
+use Rattle.cif_views.proofs.Names.{flat_map-append, flat_map-map, length, length-append, length-map, listed_fields, map, nested_fields, no_call_text, refl, subst, sym}
 use Rattle.cif_views.proofs.Names.{take, values_of, with_calls, without_calls, ℕ, ◌++◌, ◌<◌, ◌∙◌, ◌∷◌, ◌≡◌}
 use Rattle.cif_views.proofs.RowNames.{Adds, Field, Format, Json, Text, Tsv, Value, added-both, added-is, closing, field_text, fields-added}
 use Rattle.cif_views.proofs.RowNames.{fields_text, name_text, named, names_text, opening, row-added, row_text, some-field, text}
@@ -8,6 +8,7 @@ use Rattle.cif_columns.specs.declared.sink.Sink.{Sink}
 use Rattle.cif_rows.proofs.NestedRows.{call-added, calls-added, row-with-calls-added}
 use Rattle.cif_rows.proofs.NestedRows.{call_text as nested_text}
 use Rattle.cif_rows.specs.Row.{absent, without_last}
+use Rattle.cif_views.specs.Steps.Rows.{IsRowText}
 use Rattle.cif_views.specs.declared.calls.CallColumns.{CallColumns}
 
 -- fields that are some text, before others and behind them
@@ -45,6 +46,15 @@ pub first-and-last : {B : Type 0} (write : B → List ℕ) (first : B) (between 
 first-and-last write first between last =
     ap (λ (l : List ℕ). write first ++ l)
     (ap (λ (l : List ℕ). flat_map write between ++ l) (sym (append-nil (write last))) ∙ sym (flat_map-append write between (last ∷ [])))
+
+-- the fields of a row as some text, which is added
+pub some-fields : (f : Format) (row : List Field) (kept : List ℕ) → IsRowText f row kept → 0 < length (fields_text f row)
+some-fields f row kept h = subst (λ (l : List ℕ). 0 < length l) h.is h.some
+
+pub kept-added : {W : Type 0} (contents : W → Option (List ℕ)) (errors : W → Option ℕ) (f : Format) (row : List Field) (kept : List ℕ)
+    (s t : Sink W) (w x : List ℕ) → IsRowText f row kept → Adds contents errors kept s t w x →
+    Adds contents errors (fields_text f row) s t w x
+kept-added contents errors f row kept s t w x h adds = added-is contents errors _ _ s t w x h.is adds
 
 module _ {W : Type 0} (contents : W → Option (List ℕ)) (errors : W → Option ℕ) (f : Format) where
   -- a call: its line, a row with its fields, or its object

@@ -9,5 +9,5 @@ pub use Rattle.cif_rows.specs.Steps.{closing, field_text, fields_text, name_text
 pub use Rattle.cif_rows.specs.declared.{format.Format.Format, format.Format.TheVariants.Json, format.Format.TheVariants.Tsv}
 pub use Rattle.cif_rows.specs.declared.{format.Format.TheVariants.Text, shape.Padding.TheVariants.Apart, shape.Shape.Shape}
 pub use Rattle.cif_rows.specs.declared.shape.Shape.TheVariants.{Date, Number, Trimmed, Whole}
-pub use Rattle.cif_rows.proofs.AddedTexts.{all-written, field-added, fields-added, row-added, some-field, three-fields}
+pub use Rattle.cif_rows.proofs.AddedTexts.{added-after, all-written, field-added, fields-added, fields-after, row-added, some-field, three-fields}
 unfoldable pub use Rattle.cif_rows.specs.Row.{long_date}

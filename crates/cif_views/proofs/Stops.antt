@@ -14,7 +14,11 @@ use Rattle.std.proofs.lemmas.Bool.{or_parts}
 use Rattle.std.specs.{List.list_any, Prelude.option_to_list}
 use Rattle.cif_columns.specs.Field.{columns_from}
 use Rattle.cif_views.specs.{Boards.board_train, Boards.clock_time, Boards.is_shown, Boards.stop_of}
-use Rattle.cif_views.specs.Steps.Boards.{is_at, row_if, row_of_date, rows_from, rows_of, stops_in}
+use Rattle.cif_views.specs.Steps.Boards.{calling_from, is_at, row_if, row_of_date, row_on, rows_from, rows_of, stops_in}
+use Rattle.cif_canon.specs.Steps.Views.{applies_on}
+use Rattle.cif_columns.specs.Day.{weekday_of}
+use Rattle.std.proofs.lemmas.Bool.{lt-leb}
+use Rattle.std.specs.Prelude.{option_map, slice_index_or}
 use Rattle.cif_views.specs.declared.{board.BoardRow.BoardRow, board.BoardTrain.BoardTrain, boards.Wanted.Wanted, public_stop.PublicStop.PublicStop}
 
 abbrev pub stops_left : Journey → ℕ → List (List ℕ) → List PublicStop
@@ -95,6 +99,40 @@ module _ (wanted : Wanted) where
   no-rows e none =
       let stops = stops_in (drop 1 e.1.body) in
       rows-none e (board_train e.1.body stops) stops (stops-elsewhere at_first 1 (drop 1 e.1.body) none)
+
+-- ---- where a train runs from a later date on
+
+module _ (wanted : Wanted) (e : List ℕ × Permanent BodyLines) (late : wanted.day < e.1.first) where
+  not-yet : (midnights : ℕ) → applies_on e.1 (wanted.day - midnights) ≡ false
+  not-yet midnights =
+      let day = wanted.day - midnights in
+      ap (λ b. b && (nat_le day e.1.last && slice_index_or e.1.days (weekday_of day) false)) (lt-leb e.1.first day (omega (arith, late)))
+
+  abbrev no-row : Option BoardRow
+  no-row = None
+
+  none-chosen : (b : Bool) → (if b then no-row else None) ≡ no-row
+  none-chosen true = refl
+  none-chosen false = refl
+
+  row-later : (train : BoardTrain) (stop : PublicStop) (later : List PublicStop) → row_if wanted e train stop later ≡ None
+  row-later train stop later =
+      let midnights = (clock_time wanted.kind stop).midnights in
+      let shown = is_shown wanted.kind stop && is_at wanted.place stop.location in
+      let none : row_of_date wanted e train stop later (wanted.day - midnights) ≡ None =
+      ap (λ b. if b then option_map (row_on wanted e.0 train stop (wanted.day - midnights)) (calling_from wanted.goal (wanted.day - midnights) later)
+      else None) (not-yet midnights) in
+      ap (λ o. if shown then (if nat_le midnights wanted.day then o else None) else None) none
+      ∙ ap (λ o. if shown then o else None) (none-chosen (nat_le midnights wanted.day))
+      ∙ none-chosen shown
+
+  rows-later : (train : BoardTrain) (stops : List PublicStop) → rows_from wanted e train stops ≡ []
+  rows-later train [] = refl
+  rows-later train (stop ∷ stops) =
+      ap (λ o. option_to_list o ++ rows_from wanted e train stops) (row-later train stop stops) ∙ rows-later train stops
+
+  pub no-rows-yet : rows_of wanted e ≡ []
+  no-rows-yet = let stops = stops_in (drop 1 e.1.body) in rows-later (board_train e.1.body stops) stops
 
 -- ---- one row more
 

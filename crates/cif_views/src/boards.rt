@@ -103,6 +103,9 @@ impl Wanted {
     ) -> Result<(), AllocError>
         ensures { OnOk result (rows.new.items ≡ rows.old.items ++ rows_of self.now schedule.now) }
     {
+        if self.day < schedule.first() {
+            return Ok(());
+        }
         if !are_at(schedule.further(), &self.place) {
             return Ok(());
         }
@@ -205,7 +208,7 @@ impl PublicStop {
 }
 
 /// Whether one of the lines is at one of the locations.
-fn are_at(lines: LineSlice<'_>, place: &Locations) -> bool
+pub fn are_at(lines: LineSlice<'_>, place: &Locations) -> bool
     ensures { result ≡ list_any (λ line. is_at place.now (columns_from 3 7 line)) lines.entry }
 {
     let mut lines = lines;

@@ -1,10 +1,10 @@
 //! The calls of a train, each below its line, behind its row, or within its object.
-ghost use Rattle.std.specs.Prelude.{◌≡◌, ◌<◌, List, length};
+ghost use Rattle.std.specs.Prelude.{◌≡◌, ◌<◌, ◌≤◌, List, length};
 ghost use Rattle.std.specs.List.{flat_map};
-ghost use Rattle.cif_rows.specs.{Adds.Adds, Appended.IsAppended, Row.row_text, Steps.fields_text};
+ghost use Rattle.cif_rows.specs.{Adds.Adds, Appended.IsAppended, Row.Field, Row.row_text, Steps.fields_text};
 ghost use Rattle.cif_views.specs.Calls.{calls_at, calls_in, origin_call, stop_call, terminus_call};
 ghost use Rattle.cif_views.specs.Listing.{with_calls, without_calls};
-ghost use Rattle.cif_views.specs.Steps.Rows.{call_text, fields_of_call, no_call_text, values_of};
+ghost use Rattle.cif_views.specs.Steps.Rows.{IsRowText, call_text, fields_of_call, no_call_text, values_of};
 
 use cif_columns::{Sink, WriteDevice};
 use cif_extract::{Body, Call, Calls};
@@ -36,15 +36,17 @@ pub(crate) const CALL_NAMES: [&str; 12] = [
 
 /// The row of an association, of a train or of a schedule.
 pub(crate) trait RowSource {
-    ghost use Rattle.std.specs.Prelude.{◌<◌, List, length};
-    ghost use Rattle.cif_rows.specs.{Adds.Adds, Row.Field, Steps.fields_text, declared.format.Format.Format};
+    ghost use Rattle.std.specs.Prelude.{◌≡◌, ◌<◌, ◌≤◌, ◌+◌, ◌++◌, List, length};
+    ghost use Rattle.cif_rows.specs.{Row.Field, Steps.fields_text, declared.format.Format.Format};
 
     // Its fields.
     ghost fields: { Self → List Field };
 
-    /// Adds the fields of the row.
-    fn push_row<F: RowFormat, W: WriteDevice>(&self, rows: &mut Rows<F>, sink: &mut Sink<W>)
-        ensures adds { Adds W.contents W.write_errors (fields_text F.FORMAT (fields self.now)) sink.old sink.new rows.old rows.new }
+    /// Adds the fields of the row, for which there is room.
+    fn push_row<F: RowFormat>(&self, rows: &mut Rows<F>)
+        requires { length rows.old ≤ 640 }
+        ensures text { rows.new ≡ rows.old ++ fields_text F.FORMAT (fields self.now) }
+        ensures len { length rows.new ≤ length rows.old + 640 }
         ensures some { (format : Format) → 0 < length (fields_text format (fields self.now)) };
 }
 
@@ -222,15 +224,16 @@ fn push_call<F: RowFormat, W: WriteDevice>(
     }
 }
 
-/// Adds a call of a train with this row: its line of text, the row with its fields, or an object.
-fn push_call_of<F: RowFormat, R: RowSource, W: WriteDevice>(
+/// Adds a call of a train whose row has these fields: its line of text, the row with the call's fields, or an object.
+fn push_call_of<F: RowFormat, W: WriteDevice>(
     rows: &mut Rows<F>,
-    row: &R,
+    row: &Rows<F>,
     call: &CallColumns,
     sink: &mut Sink<W>,
 )
-    ensures { Adds W.contents W.write_errors (call_text F.FORMAT (R.fields row.now) (values_of call.now))
-        sink.old sink.new rows.old rows.new }
+    requires { length row.now ≤ 640 }
+    ensures { (fields : List Field) → IsRowText F.FORMAT fields row.now
+        → Adds W.contents W.write_errors (call_text F.FORMAT fields (values_of call.now)) sink.old sink.new rows.old rows.new }
 {
     match F::FORMAT {
         Format::Text => {
@@ -240,7 +243,7 @@ fn push_call_of<F: RowFormat, R: RowSource, W: WriteDevice>(
         }
         Format::Tsv => {
             rows.begin_row(sink);
-            row.push_row(rows, sink);
+            rows.push_kept(sink, row);
             push_call(rows, call, sink);
             rows.end_row(sink);
         }
@@ -253,14 +256,15 @@ fn push_call_of<F: RowFormat, R: RowSource, W: WriteDevice>(
 }
 
 /// Adds the call of a location on the way; a change is none.
-fn push_call_at<F: RowFormat, R: RowSource, W: WriteDevice>(
+fn push_call_at<F: RowFormat, W: WriteDevice>(
     rows: &mut Rows<F>,
-    row: &R,
+    row: &Rows<F>,
     call: &Call,
     sink: &mut Sink<W>,
 )
-    ensures { Adds W.contents W.write_errors (flat_map (call_text F.FORMAT (R.fields row.now)) (calls_at call.now))
-        sink.old sink.new rows.old rows.new }
+    requires { length row.now ≤ 640 }
+    ensures { (fields : List Field) → IsRowText F.FORMAT fields row.now
+        → Adds W.contents W.write_errors (flat_map (call_text F.FORMAT fields) (calls_at call.now)) sink.old sink.new rows.old rows.new }
 {
     match call {
         Call::At(stop) => push_call_of(rows, row, &stop_call(stop), sink),
@@ -269,14 +273,15 @@ fn push_call_at<F: RowFormat, R: RowSource, W: WriteDevice>(
 }
 
 /// Adds the calls on the way.
-fn push_calls_between<F: RowFormat, R: RowSource, W: WriteDevice>(
+fn push_calls_between<F: RowFormat, W: WriteDevice>(
     rows: &mut Rows<F>,
-    row: &R,
+    row: &Rows<F>,
     calls: Calls<'_>,
     sink: &mut Sink<W>,
 )
-    ensures { Adds W.contents W.write_errors (flat_map (call_text F.FORMAT (R.fields row.now)) (flat_map calls_at calls.entry))
-        sink.old sink.new rows.old rows.new }
+    requires { length row.now ≤ 640 }
+    ensures { (fields : List Field) → IsRowText F.FORMAT fields row.now
+        → Adds W.contents W.write_errors (flat_map (call_text F.FORMAT fields) (flat_map calls_at calls.entry)) sink.old sink.new rows.old rows.new }
 {
     let mut calls = calls;
     while let Some(call) = calls.next() {
@@ -284,42 +289,44 @@ fn push_calls_between<F: RowFormat, R: RowSource, W: WriteDevice>(
     }
 }
 
-/// Adds all calls of a train with this row.
-fn push_calls<F: RowFormat, R: RowSource, W: WriteDevice>(
+/// Adds all calls of a train whose row has these fields.
+fn push_calls<F: RowFormat, W: WriteDevice>(
     rows: &mut Rows<F>,
-    row: &R,
+    row: &Rows<F>,
     body: &Body,
     sink: &mut Sink<W>,
 )
-    ensures { Adds W.contents W.write_errors (flat_map (call_text F.FORMAT (R.fields row.now)) (calls_in body.now))
-        sink.old sink.new rows.old rows.new }
+    requires { length row.now ≤ 640 }
+    ensures { (fields : List Field) → IsRowText F.FORMAT fields row.now
+        → Adds W.contents W.write_errors (flat_map (call_text F.FORMAT fields) (calls_in body.now)) sink.old sink.new rows.old rows.new }
 {
     push_call_of(rows, row, &origin_call(&body.origin()), sink);
     push_calls_between(rows, row, body.calls(), sink);
     push_call_of(rows, row, &terminus_call(&body.terminus()), sink);
 }
 
-/// Adds the row of a train and its calls.
-fn push_with_calls<F: RowFormat, R: RowSource, W: WriteDevice>(
+/// Adds the row of a train, which has these fields, and its calls.
+fn push_with_calls<F: RowFormat, W: WriteDevice>(
     rows: &mut Rows<F>,
-    row: &R,
+    row: &Rows<F>,
     body: &Body,
     sink: &mut Sink<W>,
 )
-    ensures { Adds W.contents W.write_errors (with_calls F.FORMAT (R.fields row.now) (calls_in body.now))
-        sink.old sink.new rows.old rows.new }
+    requires { length row.now ≤ 640 }
+    ensures { (fields : List Field) → IsRowText F.FORMAT fields row.now
+        → Adds W.contents W.write_errors (with_calls F.FORMAT fields (calls_in body.now)) sink.old sink.new rows.old rows.new }
 {
     match F::FORMAT {
         Format::Text => {
             rows.begin_row(sink);
-            row.push_row(rows, sink);
+            rows.push_kept(sink, row);
             rows.end_row(sink);
             push_calls(rows, row, body, sink);
         }
         Format::Tsv => push_calls(rows, row, body, sink),
         Format::Json => {
             rows.begin_row(sink);
-            row.push_row(rows, sink);
+            rows.push_kept(sink, row);
             rows.begin_calls(sink);
             push_calls(rows, row, body, sink);
             rows.end_calls(sink);
@@ -340,6 +347,7 @@ fn push_no_calls<F: RowFormat, W: WriteDevice>(rows: &mut Rows<F>, sink: &mut Si
 }
 
 /// Appends the row of a train, with its calls.
+// In a table each call has the fields of the row again: they are laid out once.
 pub(crate) fn write_with_calls<F: RowFormat, R: RowSource, W: WriteDevice>(
     row: &R,
     body: &Body,
@@ -347,8 +355,10 @@ pub(crate) fn write_with_calls<F: RowFormat, R: RowSource, W: WriteDevice>(
 )
     ensures { IsAppended W.contents W.write_errors (with_calls F.FORMAT (R.fields row.now) (calls_in body.now)) sink.old sink.new }
 {
+    let mut kept = Rows::<F>::new();
+    row.push_row(&mut kept);
     let mut rows = Rows::<F>::new();
-    push_with_calls(&mut rows, row, body, sink);
+    push_with_calls(&mut rows, &kept, body, sink);
     rows.finish(sink);
 }
 
@@ -361,7 +371,8 @@ pub(crate) fn write_without_calls<F: RowFormat, R: RowSource, W: WriteDevice>(
 {
     let mut rows = Rows::<F>::new();
     rows.begin_row(sink);
-    row.push_row(&mut rows, sink);
+    rows.make_room(sink);
+    row.push_row(&mut rows);
     push_no_calls(&mut rows, sink);
     rows.end_row(sink);
     rows.finish(sink);
@@ -373,7 +384,8 @@ pub(crate) fn write_row<F: RowFormat, R: RowSource, W: WriteDevice>(row: &R, sin
 {
     let mut rows = Rows::<F>::new();
     rows.begin_row(sink);
-    row.push_row(&mut rows, sink);
+    rows.make_room(sink);
+    row.push_row(&mut rows);
     rows.end_row(sink);
     rows.finish(sink);
 }

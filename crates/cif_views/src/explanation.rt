@@ -219,7 +219,10 @@ fn push_said_of_association<F: RowFormat, W: WriteDevice>(
 {
     let key = &association.key;
     match &association.body {
-        Some(body) => push_association(rows, key, body, sink),
+        Some(body) => {
+            rows.make_room(sink);
+            push_association(rows, key, body);
+        }
         None => rows.push_fields(
             sink,
             &[
@@ -267,7 +270,10 @@ fn push_said_of_train<F: RowFormat, W: WriteDevice>(
         sink.old sink.new rows.old rows.new }
 {
     match &schedule.body {
-        Some(body) => push_train(rows, &schedule.uid, body, sink),
+        Some(body) => {
+            rows.make_room(sink);
+            push_train(rows, &schedule.uid, body);
+        }
         None => {
             rows.push(
                 sink,

@@ -24,7 +24,7 @@ mod public_stop;
 mod tables;
 
 pub use board::{Board, BoardKind};
-pub use boards::write_board;
+pub use boards::{are_at, write_board};
 pub use calendar_dates::date_calendar;
 pub use calendar_weeks::week_calendar;
 pub use clash_list::Clashes;
@@ -32,5 +32,5 @@ pub use difference_table::write_difference_table;
 pub use explanation::{explain_listing, explain_view};
 pub use find_clashes::clashes;
 pub use listing::{Listing, day_listing, train_listing};
-pub use places::Place;
+pub use places::{Locations, Place, tiploc_of};
 pub use tables::{Table, write_table};

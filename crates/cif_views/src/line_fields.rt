@@ -1,9 +1,9 @@
 //! The fields of lines, as a row has them.
-ghost use Rattle.std.specs.Prelude.{◌≡◌, ◌≤◌, ◌+◌, ◌*◌, ◌-◌, ◌++◌, IsTrue, length};
+ghost use Rattle.std.specs.Prelude.{◌≡◌, ◌≤◌, ◌+◌, ◌*◌, ◌-◌, ◌++◌, All, IsTrue, length};
 ghost use Rattle.cif_columns.specs.Field.{columns};
-ghost use Rattle.cif_rows.specs.{Adds.Adds, Row.named, Row.nothing, declared.shape.Padding.TheVariants.Apart};
-ghost use Rattle.cif_rows.specs.Steps.{IsOfShape, field_text, fields_text, names_text, width_of};
-ghost use Rattle.cif_views.specs.Steps.Columns.{are_within, column, column_names, columns_of, field_in, fields_in, is_span, is_within};
+ghost use Rattle.cif_rows.specs.{Adds.Adds, Row.named, Row.nothing, declared.format.Format.TheVariants.Json, declared.shape.Padding.TheVariants.Apart};
+ghost use Rattle.cif_rows.specs.Steps.{IsOfShape, IsPlain, field_text, fields_text, names_text, width_of};
+ghost use Rattle.cif_views.specs.Steps.Columns.{are_within, column, column_names, columns_of, field_in, fields_in, is_span, is_text, is_within};
 ghost use Rattle.cif_views.specs.Steps.Columns.{room_for, room_of};
 ghost use Rattle.cif_views.specs.Tables.{yymmdd_from};
 
@@ -82,21 +82,30 @@ pub(crate) fn push_field<F: RowFormat>(
     }
 }
 
-/// `push_field` of a copy of the line.
-// So the compiler knows that no byte of the line is one of the row.
+/// Adds the text that has this column in a line of this kind, for which there is room. JSON shows each byte of the line as it is.
+// The line is a copy: so the compiler knows that no byte of it is one of the row.
 #[inline(always)]
-pub(crate) fn push_of_copy<F: RowFormat>(
+pub(crate) fn push_text<F: RowFormat>(
     rows: &mut Rows<F>,
     given: &Column,
     kind: JourneyKind,
     line: Line,
 )
     requires within { IsTrue (is_within (column given.now).1) }
+    requires text { IsTrue (is_text (column given.now).1) }
+    requires plain { F.FORMAT ≡ Json → All IsPlain line }
     requires room { length rows.old + room_of (column given.now) ≤ 1280 }
     ensures text { rows.new ≡ rows.old ++ field_text F.FORMAT (field_in kind line (column given.now)) }
     ensures len { length rows.new ≤ length rows.old + room_of (column given.now) }
 {
-    push_field(rows, given, kind, &line);
+    match &given.1 {
+        FieldPlace::Nowhere | FieldPlace::Text(_, _) | FieldPlace::Call(_, _, _) => {
+            rows.push_plain_within(given.0, columns_in(&line, span_in(kind, &given.1)))
+        }
+        FieldPlace::Whole(_, _) | FieldPlace::Date(_, _) | FieldPlace::DayFirst(_, _) => {
+            unreachable!()
+        }
+    }
 }
 
 /// Adds a field, for which there is room.

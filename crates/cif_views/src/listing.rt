@@ -1,5 +1,5 @@
 //! What runs on a day, and when a train runs, as text, as a table or as JSON, with or without calls.
-ghost use Rattle.std.specs.Prelude.{◌≡◌, ◌∷◌, [], ℕ, List, IfErr, codes};
+ghost use Rattle.std.specs.Prelude.{◌≡◌, ◌≤◌, ◌+◌, ◌++◌, ◌∷◌, [], ℕ, List, IfErr, codes, length};
 ghost use Rattle.cif_canon.specs.{Normalised.FaultWrites, Normalised.IfWritten, Views.IsDayFault, Views.IsTrainFault};
 ghost use Rattle.cif_extract.specs.ExtractParts.{extract_parts};
 ghost use Rattle.cif_rows.specs.{Adds.Adds, Appended.IsAppended, Row.heading_text, Steps.fields_text, Steps.names_text};
@@ -126,19 +126,25 @@ enum First {
     Train(Uid),
 }
 
-/// Adds what the rows of a table begin with.
-fn push_first<F: RowFormat, W: WriteDevice>(rows: &mut Rows<F>, first: First, sink: &mut Sink<W>)
-    ensures { Adds W.contents W.write_errors (fields_text F.FORMAT (first_field first ∷ [])) sink.old sink.new rows.old rows.new }
+/// Adds what the rows of a table begin with, for which there is room.
+fn push_first<F: RowFormat>(rows: &mut Rows<F>, first: First)
+    requires room { length rows.old + 40 ≤ 1280 }
+    ensures text { rows.new ≡ rows.old ++ fields_text F.FORMAT (first_field first ∷ []) }
+    ensures len { length rows.new ≤ length rows.old + 40 }
 {
     match first {
-        First::Date(day) => rows.push_fields(
-            sink,
-            &[("date", Padding::Hidden, Shape::Date, &day.to_yymmdd())],
-        ),
-        First::Train(uid) => rows.push_fields(
-            sink,
-            &[("uid", Padding::Hidden, Shape::Whole, &uid.write())],
-        ),
+        First::Date(day) => rows.push_fields_within(&[(
+            "date",
+            Padding::Hidden,
+            Shape::Date,
+            &day.to_yymmdd(),
+        )]),
+        First::Train(uid) => rows.push_fields_within(&[(
+            "uid",
+            Padding::Hidden,
+            Shape::Whole,
+            &uid.write(),
+        )]),
     }
 }
 
@@ -157,9 +163,9 @@ impl<'a> RowSource for AssociationRow<'a> {
 
     ghost fields = { λ r. first_field r.first ∷ association_row (r.key.now, r.body.now) };
 
-    fn push_row<F: RowFormat, W: WriteDevice>(&self, rows: &mut Rows<F>, sink: &mut Sink<W>) {
-        push_first(rows, self.first, sink);
-        push_association_row(rows, self.key, self.body, sink);
+    fn push_row<F: RowFormat>(&self, rows: &mut Rows<F>) {
+        push_first(rows, self.first);
+        push_association_row(rows, self.key, self.body);
     }
 }
 
@@ -178,9 +184,9 @@ impl<'a> RowSource for TrainRow<'a> {
 
     ghost fields = { λ r. first_field r.first ∷ train_row (r.uid.now, r.body.now) };
 
-    fn push_row<F: RowFormat, W: WriteDevice>(&self, rows: &mut Rows<F>, sink: &mut Sink<W>) {
-        push_first(rows, self.first, sink);
-        push_train_row(rows, self.uid, self.body, sink);
+    fn push_row<F: RowFormat>(&self, rows: &mut Rows<F>) {
+        push_first(rows, self.first);
+        push_train_row(rows, self.uid, self.body);
     }
 }
 
@@ -200,9 +206,9 @@ impl<'a> RowSource for ScheduleRow<'a> {
 
     ghost fields = { λ r. first_field r.first ∷ schedule_row (record_of r.run.now r.body.now) };
 
-    fn push_row<F: RowFormat, W: WriteDevice>(&self, rows: &mut Rows<F>, sink: &mut Sink<W>) {
-        push_first(rows, self.first, sink);
-        push_schedule_row(rows, self.run, self.body, sink);
+    fn push_row<F: RowFormat>(&self, rows: &mut Rows<F>) {
+        push_first(rows, self.first);
+        push_schedule_row(rows, self.run, self.body);
     }
 }
 

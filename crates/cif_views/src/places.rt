@@ -14,9 +14,9 @@ use std::marker::Model;
 #[derive(Clone, Copy)]
 pub struct Place {
     /// The columns of the TIPLOC that the word spells.
-    pub(crate) tiploc: [u8; 7],
+    pub tiploc: [u8; 7],
     /// The CRS code that it spells, if it has three bytes.
-    pub(crate) crs: Option<[u8; 3]>,
+    pub crs: Option<[u8; 3]>,
 }
 
 /// These columns, with A to Z for a to z.
@@ -70,7 +70,7 @@ impl Place {
 }
 
 /// The TIPLOC of a location.
-fn tiploc_of(tiploc: &Tiploc) -> [u8; 7]
+pub fn tiploc_of(tiploc: &Tiploc) -> [u8; 7]
     ensures { result ≡ tiploc_of tiploc.now }
 {
     columns_at(&tiploc.write(), 3)
@@ -88,7 +88,7 @@ fn has_code(tiploc: &Tiploc, place: &Place) -> bool
 
 /// The TIPLOCs that a place names. A clause sees the list of them.
 #[derive(Drop)]
-pub(crate) struct Locations {
+pub struct Locations {
     tiplocs: Vec<[u8; 7]>,
 }
 
@@ -104,11 +104,7 @@ impl Model for Locations {
 
 impl Locations {
     /// The TIPLOCs that the place names, where these are all locations.
-    pub(crate) fn of(
-        alloc: Global,
-        tiplocs: &[Tiploc],
-        place: &Place,
-    ) -> Result<Locations, AllocError>
+    pub fn of(alloc: Global, tiplocs: &[Tiploc], place: &Place) -> Result<Locations, AllocError>
         ensures { IfOk result (AreLocations tiplocs.now place.now) }
     {
         let mut named = Vec::new(alloc);
@@ -123,10 +119,15 @@ impl Locations {
     }
 
     /// Whether this is one of them.
-    pub(crate) fn has(&self, location: &[u8; 7]) -> bool
+    pub fn has(&self, location: &[u8; 7]) -> bool
         ensures { result ≡ is_at self.now location.now }
     {
-        self.tiplocs.as_slice().binary_search(location).is_ok()
+        // Most places have one or two.
+        match self.tiplocs.as_slice() {
+            [one] => location == one,
+            [one, other] => location == one || location == other,
+            many => many.binary_search(location).is_ok(),
+        }
     }
 }
 

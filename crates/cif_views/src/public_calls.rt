@@ -45,6 +45,7 @@ struct Shown {
 
 impl CallTimes {
     /// The times in a line of this kind.
+    #[inline(always)]
     fn of(kind: JourneyKind, line: &Line) -> CallTimes
         ensures { result ≡ times_in kind line.now }
     {
@@ -78,6 +79,7 @@ impl CallTimes {
 
     /// When the call is reached and left, behind the moment at which the call before was left; `None` if it
     /// isn't timed.
+    #[inline(always)]
     fn stay(&self, before: Option<Moment>) -> Option<Stay>
         requires { (n : ℕ) × (n ≤ 2 ^ 64) × IfSome before (IsBy n) }
         ensures exact { result ≡ stay before self.now }
@@ -93,6 +95,7 @@ impl CallTimes {
     }
 
     /// The moments of its public times, none of them before this one; `None` if it has no public time.
+    #[inline(always)]
     fn shown(&self, before: Moment, stay: &Stay) -> Option<Shown>
         requires reached { IsOnTheWay stay.now.reached }
         requires left { IsOnTheWay stay.now.left }
@@ -296,6 +299,7 @@ impl Journey {
     /// The moments of a line of this kind with these times, and what its activities say, if it is a public call;
     /// the journey goes on behind it.
     // Many calls have no public time, and their activities aren't looked at.
+    #[inline(always)]
     fn step(&mut self, times: &CallTimes, kind: JourneyKind, line: &Line) -> Option<(Shown, Riders)>
         requires { (n : ℕ) × (n ≤ 2 ^ 64) × IsJourneyBy n self.old }
         ensures exact { (self.new, shown_in result) ≡ step self.old times.now (riders_in kind line.now) }

@@ -1,10 +1,11 @@
 //! Tables of a whole canonical extract.
-ghost use Rattle.std.specs.Prelude.{◌≡◌, ◌<◌, ◌≤◌, ◌+◌, ◌^◌, ◌++◌, ◌∷◌, IfErr, IsTrue, List, cond, length, map, ℕ};
+ghost use Rattle.std.specs.Prelude.{◌≡◌, ◌<◌, ◌≤◌, ◌+◌, ◌^◌, ◌++◌, ◌∷◌, All, IfErr, IsTrue, List, cond, length, map, ℕ};
 ghost use Rattle.std.specs.List.{flat_map};
 ghost use Rattle.cif_columns.specs.Sink.{Writes};
 ghost use Rattle.cif_extract.specs.declared.fault.Fault.TheVariants.{Write};
 ghost use Rattle.cif_canon.specs.{Lines.line_of_tiploc, Lines.schedule_plain};
-ghost use Rattle.cif_rows.specs.{Adds.Adds, Appended.IsAppended, Row.heading_text, Row.row_text, Steps.field_text, Steps.fields_text};
+ghost use Rattle.cif_rows.specs.{Adds.Adds, Appended.IsAppended, Row.heading_text, Row.row_text, Steps.IsPlain, Steps.field_text, Steps.fields_text};
+ghost use Rattle.cif_rows.specs.declared.format.Format.TheVariants as format;
 ghost use Rattle.cif_views.specs.Steps.Columns.{are_within, call_columns, column_names, columns_of, fields_in, room_for};
 ghost use Rattle.cif_views.specs.Steps.TableRows.{call_kind, has_row, journey_columns, journey_rows, row_of_kind};
 ghost use Rattle.cif_views.specs.TableText.{table_names, table_rows, table_text};
@@ -15,14 +16,14 @@ use crate::columns::{
     ASSOCIATION, BASIC, CALL, CHANGE, Column, EXTRA, HEADER, JourneyKind, NUMBERS, PUBLIC, TIPLOC,
     call_after, extra_among, kind_of_line,
 };
-use crate::line_fields::{push_each, push_names, push_of_copy};
+use crate::line_fields::{push_each, push_names, push_text};
 use crate::public_calls::write_public_calls;
 use cif_canon::writing::answer;
 use cif_canon::{Canon, CanonListing, CanonSchedule};
 use cif_columns::{Line, LineSlice, Sink, WriteDevice};
 use cif_extract::Fault;
 use cif_records::Tiploc;
-use cif_rows::{Format, Json, Numeral, Padded, RowFormat, Rows, Tsv};
+use cif_rows::{Format, Json, Numeral, Padded, RowFormat, Rows, Tsv, is_plain};
 use std::marker::PhantomData;
 
 /// The tables of a canonical extract. All but the last together say what it says.
@@ -304,31 +305,47 @@ fn push_call<const KIND: usize, F: RowFormat, W: WriteDevice>(
     ensures { Adds W.contents W.write_errors (fields_text F.FORMAT (fields_in (call_kind KIND) call_columns line.now))
         sink.old sink.new rows.old rows.new }
 {
-    rows.make_room(sink);
-    push_fields_of_call::<KIND, F>(rows, line);
+    if is_shown_as_it_is::<F>(line) {
+        rows.make_room(sink);
+        push_fields_of_call::<KIND, F>(rows, line);
+    } else {
+        push_each(rows, &CALL, call_kind(KIND), line, sink);
+    }
+}
+
+/// Whether the format shows each byte of the line as it is.
+#[inline(always)]
+fn is_shown_as_it_is<F: RowFormat>(line: &Line) -> bool
+    ensures { IsTrue result → F.FORMAT ≡ format.Json → All IsPlain line.now }
+{
+    match F::FORMAT {
+        Format::Text | Format::Tsv => true,
+        Format::Json => is_plain(line.bytes()),
+    }
 }
 
 /// Adds the fields of a call of the kind with this number, for which there is room.
 #[inline(always)]
 fn push_fields_of_call<const KIND: usize, F: RowFormat>(rows: &mut Rows<F>, line: &Line)
-    requires { length rows.old + 600 ≤ 1280 }
+    requires room { length rows.old + 600 ≤ 1280 }
+    requires plain { F.FORMAT ≡ format.Json → All IsPlain line.now }
     ensures { rows.new ≡ rows.old ++ fields_text F.FORMAT (fields_in (call_kind KIND) call_columns line.now) }
 {
     let kind = call_kind(KIND);
     let columns = &CALL;
-    push_of_copy(rows, &columns[0], kind, *line);
-    push_of_copy(rows, &columns[1], kind, *line);
-    push_of_copy(rows, &columns[2], kind, *line);
-    push_of_copy(rows, &columns[3], kind, *line);
-    push_of_copy(rows, &columns[4], kind, *line);
-    push_of_copy(rows, &columns[5], kind, *line);
-    push_of_copy(rows, &columns[6], kind, *line);
-    push_of_copy(rows, &columns[7], kind, *line);
-    push_of_copy(rows, &columns[8], kind, *line);
-    push_of_copy(rows, &columns[9], kind, *line);
-    push_of_copy(rows, &columns[10], kind, *line);
-    push_of_copy(rows, &columns[11], kind, *line);
-    push_of_copy(rows, &columns[12], kind, *line);
-    push_of_copy(rows, &columns[13], kind, *line);
-    push_of_copy(rows, &columns[14], kind, *line);
+    push_text(rows, &columns[0], kind, *line);
+    push_text(rows, &columns[1], kind, *line);
+    push_text(rows, &columns[2], kind, *line);
+    push_text(rows, &columns[3], kind, *line);
+    push_text(rows, &columns[4], kind, *line);
+    push_text(rows, &columns[5], kind, *line);
+    push_text(rows, &columns[6], kind, *line);
+    push_text(rows, &columns[7], kind, *line);
+    push_text(rows, &columns[8], kind, *line);
+    push_text(rows, &columns[9], kind, *line);
+    push_text(rows, &columns[10], kind, *line);
+    push_text(rows, &columns[11], kind, *line);
+    push_text(rows, &columns[12], kind, *line);
+    push_text(rows, &columns[13], kind, *line);
+    push_text(rows, &columns[14], kind, *line);
 }

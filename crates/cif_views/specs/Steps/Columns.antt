@@ -1,5 +1,5 @@
 -- The fields of lines by the columns of the tables. No public clause cites them.
-use Rattle.std.specs.Prelude.{Bool, List, [], length, map, nat_eq, nat_le, true, ℕ, ◌&&◌, ◌*◌, ◌+◌, ◌-◌, ◌∷◌}
+use Rattle.std.specs.Prelude.{Bool, List, [], length, map, nat_eq, false, nat_le, true, ℕ, ◌&&◌, ◌*◌, ◌+◌, ◌-◌, ◌∷◌}
 use Rattle.std.specs.Borrow.{Bor}
 use Rattle.cif_columns.specs.Field.{columns}
 use Rattle.cif_rows.specs.Row.{Field, Value, named}
@@ -100,6 +100,15 @@ is_within (Call origin stop terminus) = is_short origin && (is_short stop && is_
 abbrev pub are_within : List Column → Bool
 are_within [] = true
 are_within (c ∷ columns) = is_within c.1 && are_within columns
+
+-- what stands there is shown as a text without the spaces at its end
+abbrev pub is_text : FieldPlace → Bool
+is_text (Text _ _) = true
+is_text (Whole _ _) = false
+is_text (Date _ _) = false
+is_text (DayFirst _ _) = false
+is_text Nowhere = true
+is_text (Call _ _ _) = true
 
 -- how many bytes a place takes at most; and a field in a row of any format, with its name
 abbrev pub width_of : FieldPlace → ℕ

@@ -1,5 +1,5 @@
 -- The rows of a train, call by call. No public clause cites them.
-use Rattle.std.specs.Prelude.{List, ℕ, ◌∷◌, [], ◌++◌, codes, map, Bool}
+use Rattle.std.specs.Prelude.{List, ℕ, ◌∷◌, [], ◌++◌, ◌<◌, ◌≡◌, codes, length, map, Bool}
 use Rattle.cif_rows.specs.Row.{Field, Value, absent, object_text, row_text, text}
 use Rattle.cif_rows.specs.Steps.{fields_text}
 use Rattle.cif_rows.specs.declared.format.Format.{Format}
@@ -26,6 +26,11 @@ abbrev pub call_text : Format → List Field → List Value → List ℕ
 call_text Text row call = row_text Text (listed_fields call)
 call_text Tsv row call = row_text Tsv (row ++ listed_fields call)
 call_text Json row call = object_text (nested_fields call) ++ codes ","
+
+-- this is the text of the fields of a row, and there is some
+pub record IsRowText (format : Format) (row : List Field) (text : List ℕ) : Type 0 where
+  pub is : text ≡ fields_text format row
+  pub some : 0 < length text
 
 -- what is written where a call is missing
 abbrev pub no_call_text : Format → List ℕ

@@ -1,8 +1,8 @@
 -- What is written of each field is named.
 use Rattle.cif_canon.proofs.rows.push_association.Goals as goal
 
-pub returns : goal.returns
-returns g c = rw (
+pub returns-clause-text : goal.returns-clause-text
+returns-clause-text g c = rw (
   c.write.ensures.columns,
   c.write-2.ensures.columns,
   c.write-3.ensures.columns,
@@ -12,4 +12,4 @@ returns g c = rw (
   c.write-7.ensures.columns,
   c.write-8.ensures.columns,
   c.write-9.ensures.columns,
-) at c.push_fields.ensures
+) at c.push_fields_within.ensures.text

@@ -1,8 +1,8 @@
 -- What is written of each field is named.
 use Rattle.cif_canon.proofs.rows.push_journey.Goals as goal
 
-pub returns : goal.returns
-returns g c = rw (
+pub returns-clause-text : goal.returns-clause-text
+returns-clause-text g c = rw (
   c.write.ensures.columns,
   c.write-2.ensures.columns,
   c.write-3.ensures.columns,
@@ -15,4 +15,4 @@ returns g c = rw (
   c.detail.ensures,
   c.origin-origin.ensures,
   c.terminus-terminus.ensures,
-) at c.push_fields.ensures
+) at c.push_fields_within.ensures.text

@@ -1,6 +1,6 @@
 -- So far all are plain, or it is said that they aren't.
-use Rattle.cif_rows.proofs.Names.{All, IsPlain, IsTrue, take}
+use Rattle.cif_rows.proofs.Names.{All, IsPlain, take, ◌≡◌}
 use Rattle.cif_rows.proofs.rows.is_plain.Given as goal
 
 abbrev pub invariant-loop-byte : goal.invariant-loop-byte
-invariant-loop-byte l = IsTrue l.plain → All IsPlain (take l.byte-index l.bytes)
+invariant-loop-byte l = l.escaped ≡ 0 → All IsPlain (take l.byte-index l.bytes)

@@ -4,7 +4,7 @@ use Rattle.cif_views.proofs.RowNames.{added-is}
 use Rattle.cif_views.proofs.calls.push_call_at.Goals as goal
 
 pub returns-in-At : goal.returns-in-At
-returns-in-At g c =
+returns-in-At g c fields h =
     rw c.in-At.is
-    (added-is _ _ _ _ _ _ _ _ (sym (append-nil (call_text g.F.RowFormat.FORMAT (g.R.RowSource.fields c.args.row.now) _)))
-    (rw (c.stop_call.ensures) at c.push_call_of.ensures))
+    (added-is _ _ _ _ _ _ _ _ (sym (append-nil (call_text g.F.RowFormat.FORMAT fields _)))
+    (rw (c.stop_call.ensures) at c.push_call_of.ensures fields h))

@@ -5,10 +5,10 @@ use Rattle.cif_views.proofs.RowNames.{added-both, added-is}
 use Rattle.cif_views.proofs.calls.push_calls.Goals as goal
 
 pub returns : goal.returns
-returns g c =
+returns g c fields h =
     let b = parts_in c.args.body.now in
-    let text = call_text g.F.RowFormat.FORMAT (g.R.RowSource.fields c.args.row.now) in
+    let text = call_text g.F.RowFormat.FORMAT fields in
     added-is _ _ _ _ _ _ _ _ (first-and-last text (origin_call b.origin) (flat_map calls_at b.calls) (terminus_call b.terminus))
-    (added-both _ _ _ _ _ _ _ _ _ _ (rw (c.origin_call.ensures, c.origin.ensures) at c.push_call_of.ensures)
-    (added-both _ _ _ _ _ _ _ _ _ _ (rw (c.calls.ensures) at c.push_calls_between.ensures)
-    (rw (c.terminus_call.ensures, c.terminus.ensures) at c.push_call_of-2.ensures)))
+    (added-both _ _ _ _ _ _ _ _ _ _ (rw (c.origin_call.ensures, c.origin.ensures) at c.push_call_of.ensures fields h)
+    (added-both _ _ _ _ _ _ _ _ _ _ (rw (c.calls.ensures) at c.push_calls_between.ensures fields h)
+    (rw (c.terminus_call.ensures, c.terminus.ensures) at c.push_call_of-2.ensures fields h)))

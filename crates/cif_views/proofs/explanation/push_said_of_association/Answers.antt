@@ -1,8 +1,9 @@
 -- A cancellation has its key only.
+use Rattle.cif_views.proofs.RowNames.{added-after}
 use Rattle.cif_views.proofs.explanation.push_said_of_association.Goals as goal
 
 pub returns-in-Some : goal.returns-in-Some
-returns-in-Some g c = rw c.in-Some.is c.push_association.ensures
+returns-in-Some g c = rw c.in-Some.is (added-after _ _ _ _ _ _ _ _ c.make_room.ensures.adds c.push_association.ensures.text)
 
 pub returns-in-None : goal.returns-in-None
 returns-in-None g c =

@@ -1,13 +1,23 @@
--- A train none of whose lines is at the place has no row (`no-rows`).
-use Rattle.cif_views.proofs.Names.{List, ap, ap₂, append-nil, subst, sym, ◌++◌, ◌∙◌, ◌≡◌}
+-- A train that runs later only (`no-rows-yet`) has no row, nor has one none of whose lines is at the place (`no-rows`).
+use Rattle.cif_views.proofs.Names.{List, ap, ap₂, append-nil, arith, subst, sym, ◌++◌, ◌<◌, ◌∙◌, ◌≡◌}
 use Rattle.std.specs.Result.{OnOk}
 use Rattle.std.specs.List.{list_any}
 use Rattle.cif_columns.specs.Field.{columns_from}
-use Rattle.cif_views.proofs.Stops.{no-rows}
+use Rattle.cif_views.proofs.Stops.{no-rows, no-rows-yet}
+use Rattle.cif_weeks.proofs.Spans.{day-later}
 use Rattle.cif_views.specs.Boards.{board_train}
 use Rattle.cif_views.specs.Steps.Boards.{is_at, rows_from, stops_in}
 use Rattle.cif_views.specs.declared.board.BoardRow.{BoardRow}
 use Rattle.cif_views.proofs.boards.Wanted.add_rows.Goals as goal
+
+pub returns-then-lt : goal.returns-then-lt
+returns-then-lt c =
+    let old = c.args.rows.now.items in
+    let e = c.args.schedule.now in
+    let first = c.first.ensures in
+    let less = day-later c.args.self.now.day c.first.result c.lt.result c.lt.ensures c.if-lt.true in
+    let late : c.args.self.now.day < e.1.first = omega (arith, first, less) in
+    sym (append-nil old) ∙ ap (λ (l : List BoardRow). old ++ l) (sym (no-rows-yet c.args.self.now e late))
 
 pub returns-then-not-are_at : goal.returns-then-not-are_at
 returns-then-not-are_at c =

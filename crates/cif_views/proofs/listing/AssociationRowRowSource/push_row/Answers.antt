@@ -1,13 +1,14 @@
 -- The first field goes before the others.
 use Rattle.cif_views.proofs.Names.{[], first_field, association_row, ◌∷◌}
 use Rattle.cif_canon.proofs.SomeFields.{association-some}
-use Rattle.cif_views.proofs.{CallRows.some-later, RowNames.fields-added}
+use Rattle.cif_views.proofs.{CallRows.some-later, RowNames.fields-after}
 use Rattle.cif_views.proofs.listing.AssociationRowRowSource.push_row.Goals as goal
 
-pub returns-clause-adds : goal.returns-clause-adds
-returns-clause-adds g c =
+pub returns-clause-text : goal.returns-clause-text
+returns-clause-text g c =
     let r = c.args.self.now in
-    fields-added _ _ g.F.RowFormat.FORMAT (first_field r.first ∷ []) (association_row (r.key.now, r.body.now)) _ _ _ _ _ _ c.push_first.ensures c.push_association_row.ensures
+    fields-after g.F.RowFormat.FORMAT _ _ _ (first_field r.first ∷ []) (association_row (r.key.now, r.body.now)) c.push_first.ensures.text
+    c.push_association_row.ensures.text
 
 pub returns-clause-some : goal.returns-clause-some
 returns-clause-some g c format =

@@ -2,7 +2,7 @@
 use Rattle.cif_rows.proofs.Names.{drop, fields_text, length, ◌++◌, ◌+◌}
 use Rattle.cif_rows.proofs.GivenFields.{IsGrowing}
 use Rattle.cif_rows.specs.Steps.{fields_of, room_for}
-use Rattle.cif_rows.proofs.rows.Rows.push_all.Given as goal
+use Rattle.cif_rows.proofs.rows.Rows.push_fields_within.Given as goal
 
 abbrev pub invariant-loop-field : goal.invariant-loop-field
 invariant-loop-field g l =
