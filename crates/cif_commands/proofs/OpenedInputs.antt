@@ -1,5 +1,8 @@
 -- Inputs that are opened one after another.
-use Rattle.cif_commands.proofs.Names.{List, Option, Source, Text, [], subst, sym, ℕ, ◌++◌, ◌∷◌, ◌≡◌}
+use Rattle.std.proofs.lemmas.List.{map-append}
+use Rattle.cif_columns.proofs.Names.{take_more}
+use Rattle.cif_commands.proofs.Names.{List, Option, Source, Text, [], ap, get_or, length, map, subst, sym, take, ℕ, ◌++◌}
+use Rattle.cif_commands.proofs.Names.{◌+◌, ◌<◌, ◌∙◌, ◌∷◌, ◌≡◌}
 use Rattle.cif_commands.specs.Input.{AreFeedInputs, AreJobInputs, AreOpened, AreUpdateInputs, IsOpened, given_by}
 
 -- one more is opened
@@ -11,6 +14,19 @@ opened-more remaining given (n ∷ names) (s ∷ sources) name source all one =
     (all.0, opened-more remaining given names sources name source all.1 one)
 opened-more remaining given [] (s ∷ sources) name source all one = absurd all
 opened-more remaining given (n ∷ names) [] name source all one = absurd all
+
+-- the next of the names is opened
+pub opened-next : {S R : Type 0} (bytes : S → Text) (remaining : R → Option (List ℕ)) (given : Text → Option (List ℕ)) (names : List S)
+    (i : ℕ) (item d : S) (sources next : List (Source R)) (word : Text) (source : Source R) → i < length names → item ≡ get_or names i d
+    → word ≡ bytes item → next ≡ sources ++ source ∷ [] → AreOpened remaining given (map bytes (take i names)) sources
+    → IsOpened remaining given word source → AreOpened remaining given (map bytes (take (i + 1) names)) next
+opened-next bytes remaining given names i item d sources next word source below is word_is next_is all one =
+    let more = ap (map bytes) (take_more names i d below ∙ ap (λ n. take i names ++ (n ∷ [])) (sym is))
+    ∙ map-append bytes (take i names) (item ∷ []) in
+    subst (λ ns. AreOpened remaining given ns next) (sym more)
+    (subst (λ ss. AreOpened remaining given (map bytes (take i names) ++ (bytes item ∷ [])) ss) (sym next_is)
+    (opened-more remaining given (map bytes (take i names)) sources (bytes item) source all
+    (subst (λ n. IsOpened remaining given n source) word_is one)))
 
 -- ---- inputs of the same files
 

@@ -1,5 +1,5 @@
 -- What comes of a call of the program: what goes to the output and to the errors, and the status, for all words and all inputs.
-use Rattle.std.specs.Prelude.{Bool, Err, IfErr, List, None, Ok, Option, Result, Some, [], codes, map, string_bytes, true, ℕ, ⊤, ◌||◌, ◌∷◌, ◌≡◌, ◌⊎◌}
+use Rattle.std.specs.Prelude.{Bool, Err, IfErr, List, Ok, Option, Result, codes, true, ℕ, ◌||◌, ◌≡◌, ◌⊎◌}
 use Rattle.std.specs.{List.list_any, Str.bytes_eq}
 use Rattle.std.specs.declared.alloc.AllocError.{AllocError}
 use Rattle.clap.specs.Words.{Text}
@@ -17,7 +17,7 @@ use Rattle.cif_commands.specs.{Input.AreFeedInputs, Input.AreJobInputs, Input.Ar
 use Rattle.cif_commands.specs.{JobFault.IsExplained, JobFault.IsFaultOf}
 use Rattle.cif_commands.specs.{Reported.reported_by_prepare, Reported.reported_by_update, Reported.reported_status}
 use Rattle.cif_commands.specs.{Status.ReportsFault, Status.end_status, Status.status_of}
-use Rattle.cif_commands.specs.declared.{job.FeedJob.FeedJob, job.FeedJob.TheVariants.Prepare, job.FeedJob.TheVariants.Update}
+use Rattle.cif_commands.specs.declared.{job.FeedJob.TheVariants.Prepare, job.FeedJob.TheVariants.Update}
 use Rattle.cif_commands.specs.declared.{job.FeedJob.TheVariants.Winners, job.Job.Job, job.JobFault.JobFault}
 use Rattle.cif_commands.specs.declared.{job.PrepareJob.PrepareJob, job.Request.Request, job.Task.Task, job.Task.TheVariants.Extract}
 use Rattle.cif_commands.specs.declared.{job.Task.TheVariants.Feed, job.UpdateJob.UpdateJob}
@@ -37,9 +37,15 @@ pub record Told (R W E : Type 0) : Type 1 where
 abbrev pub told_by : {R W E : Type 0} → (R → Option (List ℕ)) → (R → Option ℕ) → (Text → Option (List ℕ)) → (W → Option (List ℕ)) →
     (W → Option ℕ) → (W → Type 0) → (E → Option (List ℕ)) → (E → Option ℕ) → Told R W E
 told_by remaining read_errors given contents write_errors holds_nothing error_contents error_errors = record {
-    remaining = remaining; read_errors = read_errors; given = given; contents = contents; write_errors = write_errors;
-    holds_nothing = holds_nothing; error_contents = error_contents; error_errors = error_errors
-  }
+  remaining = remaining;
+  read_errors = read_errors;
+  given = given;
+  contents = contents;
+  write_errors = write_errors;
+  holds_nothing = holds_nothing;
+  error_contents = error_contents;
+  error_errors = error_errors;
+}
 
 -- ---- what is done
 
@@ -166,7 +172,7 @@ IsDoneAndAdvised told helps IsTaskDone names output output_new errors errors_new
 abbrev pub IsFaultAnswered : {R W E : Type 0} → Told R W E → Bool → JobFault → Sink W → Sink W → Sink E → Sink E → ℕ → Type 0
 IsFaultAnswered {E = E} told helps fault output output_new errors errors_new status = (reported : Sink E)
     × IsExplained told.contents told.write_errors told.holds_nothing told.error_contents told.error_errors fault
-      output output_new errors reported status
+    output output_new errors reported status
     × IsAdvised told helps reported errors_new
 
 -- The words ask for nothing, for this reason, and that is explained.

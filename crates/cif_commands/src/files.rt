@@ -7,6 +7,7 @@ use std::io;
 /// What opens the inputs of a call: files by their names, and the standard input.
 pub trait Files: Copy {
     type File: ReadDevice + Drop;
+
     type Standard: ReadDevice + Drop;
 
     // What the file of a name gives, where that is known. A name that can't be opened gives nothing that is known.

@@ -21,9 +21,9 @@ mod words;
 pub use advice::{Advice, DoneJob, DonePrepare, DoneUpdates};
 pub use answers::{Kept, run_job};
 pub use escaped::Escaped;
+pub use feed_run::{run_prepare, run_update, run_winners};
 pub use files::Files;
 pub use input::{Device, Input, START};
-pub use feed_run::{run_prepare, run_update, run_winners};
 pub use job::{
     BoardJob, CalendarJob, CanonicalJob, ClashesJob, CompareJob, DayJob, DiffJob, ExplainJob,
     FeedJob, InputNames, Inputs, Job, JobFault, PrepareJob, Request, TableJob, Task, TrainJob,

@@ -2,6 +2,7 @@
 ghost use Rattle.std.specs.Prelude.{◌≡◌, ◌||◌, ◌⊎◌, IfErr, IfOk, MatchResult, map, string_bytes, true};
 ghost use Rattle.std.specs.List.{list_any};
 ghost use Rattle.cif_commands.specs.{Input.given_by, Job.names_of, Verbosity.helps};
+ghost use Rattle.cif_commands.specs.declared.job.Task.TheVariants.{Feed};
 ghost use Rattle.cif_commands.specs.Program.{AreWinnersDone, IsDone, IsJobDone, IsPrepareDone, IsUpdateDone};
 ghost use Rattle.cif_commands.specs.Program.{IsDoneAndAdvised, IsFaultAnswered, ProgramAnswers, is_verbose, told_by};
 
@@ -75,11 +76,32 @@ impl<F: Files, A> Program<F, A> {
     {
         match &request.task {
             Task::Extract(job) => self.job_done(job, request, output, errors),
-            Task::Feed(FeedJob::Prepare(job)) => self.prepared(job, request, output, errors),
-            Task::Feed(FeedJob::Winners(job)) => {
+            Task::Feed(job) => self.feed_done(job, request, output, errors),
+        }
+    }
+
+    /// The same of published extracts.
+    fn feed_done<W: WriteDevice, E: WriteDevice>(
+        &self,
+        job: &FeedJob,
+        request: &Request,
+        output: &mut Sink<W>,
+        errors: &mut Sink<E>,
+    ) -> Result<u8, AllocError>
+    where
+        A: Advice<F, W>,
+        ensures { IsDoneAndAdvised (told_by ⟦<Input<'static, F> as Read>⟧.remaining ⟦<Input<'static, F> as ReadDevice>⟧.read_errors
+            (given_by (F.of_standard self.now.files) (F.of_file self.now.files))
+            W.contents W.write_errors W.holds_nothing E.contents E.write_errors)
+            (self.now.is_terminal || request.now.verbose) (λ told. IsDone told (Feed job.now)) (names_of request.now.inputs)
+            output.old output.new errors.old errors.new result }
+    {
+        match job {
+            FeedJob::Prepare(job) => self.prepared(job, request, output, errors),
+            FeedJob::Winners(job) => {
                 self.winners_shown(&job.prepare, job.format, request, output, errors)
             }
-            Task::Feed(FeedJob::Update(job)) => self.updated(job, request, output, errors),
+            FeedJob::Update(job) => self.updated(job, request, output, errors),
         }
     }
 
@@ -151,7 +173,14 @@ impl<F: Files, A> Program<F, A> {
             mut holidays,
             mut extract,
         } = inputs;
-        let ended = run_prepare(self.alloc, job, &mut holidays, &mut *extract, output, errors);
+        let ended = run_prepare(
+            self.alloc,
+            job,
+            &mut holidays,
+            &mut *extract,
+            output,
+            errors,
+        );
         let status = ended.status;
         let ended = ManuallyDrop::new(ended);
         if !opening.verbosity.helps() {
@@ -296,8 +325,8 @@ impl<F: Files, A> Program<F, A> {
             (self.now.is_terminal || asks_more) fault.now output.old output.new errors.old errors.new result }
     {
         let status = run_fault(fault, output, errors);
-        let helps = self.is_terminal || asks_more;
-        if !helps {
+        let verbosity = Verbosity::of(self.is_terminal, asks_more);
+        if !verbosity.helps() {
             return status;
         }
         let text = self.advice.on_words(fault);

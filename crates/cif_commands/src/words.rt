@@ -12,12 +12,12 @@ ghost use Rattle.cif_commands.specs.JobFault.{HasBadDate, HasBadGoal, HasBadWind
 ghost use Rattle.cif_commands.specs.JobFault.{IsFaultOf, IsNoUid, IsNoneOf, NamesNoDay, several_of};
 
 use crate::command_line::{all_choices, matches_of};
+use crate::escaped::Escaped;
 use crate::job::{
     BoardJob, CalendarJob, CanonicalJob, ClashesJob, CompareJob, DayJob, DiffJob, ExplainJob,
     FeedJob, InputNames, Inputs, Job, JobFault, PrepareJob, Request, TableJob, Task, TrainJob,
     UpdateJob, WinnersJob,
 };
-use crate::escaped::Escaped;
 use crate::verbosity::Verbosity;
 use cif_canon::Asked;
 use cif_columns::{Day, Uid, are_printable};

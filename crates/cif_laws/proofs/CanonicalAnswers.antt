@@ -311,7 +311,7 @@ module _ (form other_form : Form) (left right left_canonical right_canonical : L
       let q = pairs other_form job.asked right right_canonical d in (
         compared-also job no left right left_canonical right_canonical p q text status,
         compared-also job no left_canonical right_canonical left right (turned job.asked left left_canonical p)
-        (turned job.asked right right_canonical q) text status,
+            (turned job.asked right right_canonical q) text status,
       )
 
   pub listed-alike : (format : Format) (text : List ℕ) (status : ℕ)
@@ -321,6 +321,5 @@ module _ (form other_form : Form) (left right left_canonical right_canonical : L
       let q = pairs other_form job.asked right right_canonical d in (
         listed-also job no left right left_canonical right_canonical p q format text status,
         listed-also job no left_canonical right_canonical left right (turned job.asked left left_canonical p)
-        (turned job.asked right right_canonical q) format text status,
+            (turned job.asked right right_canonical q) format text status,
       )
-

@@ -56,8 +56,10 @@ module _ {K B : Type 0} (h : Holidays) (entries : List (K × PublishedTerms B)) 
   stands-as-feed true says known state is =
       let (days, all) = known refl in
       ⊎_elim
-      (λ has. inl ((refl, ((all.are d).0 has).clash),
-        state-none (of_key prepared k) d (says.none refl ((all.are d).0 has)) state is))
+      (λ has. inl (
+        (refl, ((all.are d).0 has).clash),
+        state-none (of_key prepared k) d (says.none refl ((all.are d).0 has)) state is,
+      ))
       (λ lacks. inr (
         λ dropped. lacks ((all.are d).1 (record { from = from; before = omega arith; clash = dropped.1 })),
         state-same (of_key prepared k) (CountOn h entries k d) d (says.same (λ both. lacks ((all.are d).1 both.1))) state is,

@@ -24,7 +24,7 @@ module _ {h : Holidays} {drops : Bool} {limit : ℕ} {bytes text : List ℕ} {dr
   day-of-feed max x spelled listed d shown view =
       let same : x ≡ a.prepared = is-prepared a nothing_asked x spelled.spell in
       let within = subst (λ (v : Header). IsWithin (header_window v) d) (own-header a nothing_asked x spelled.spell)
-          view.within in
+      view.within in
       record {
         associations_hold = λ k b.
             let says = (associations-say h a.published a.prepared dropped d within.from within.upto drops a.is k).runs (Some b) in
@@ -61,9 +61,10 @@ module _ {h : Holidays} {drops : Bool} {limit : ℕ} {bytes text : List ℕ} {dr
         says = λ u d b within.
             let own = subst (λ (w : Window). IsWithin w d) (sym window) within in
             let same = view.same_meaning.same u d (Some b) own.from own.upto in
-            let applies = runs-applies view.records u d b in
-            (λ has. (says u d (Some b) within).0 (same.1 (applies.1 has)),
-             λ feed. applies.0 (same.0 ((says u d (Some b) within).1 feed)));
+            let applies = runs-applies view.records u d b in (
+              λ has. (says u d (Some b) within).0 (same.1 (applies.1 has)),
+              λ feed. applies.0 (same.0 ((says u d (Some b) within).1 feed)),
+            );
       }
 
   pub state-of-feed : (max : ℕ) (asked : Asked) (x : ExtractParts) → SpellsNarrowed max asked x text → (uid : List ℕ) (d : ℕ)

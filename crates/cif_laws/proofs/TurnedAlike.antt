@@ -29,20 +29,26 @@ module _ {K B : Type 0} (window : Window) (xs ys zs ws : List (K × Terms B)) (s
       (λ right. inl right)
       (λ left. inr (left.0, left.1, (same.same k d (Some b) within.from within.upto).0 left.2))
       applied
-  applied-same k d None within applied = (applied.0, ⊎_elim
-      (λ says. inl says)
-      (λ nothing. inr ((same.same k d None within.from within.upto).0 nothing))
-      applied.1)
+  applied-same k d None within applied = (
+    applied.0,
+    ⊎_elim
+        (λ says. inl says)
+        (λ nothing. inr ((same.same k d None within.from within.upto).0 nothing))
+        applied.1,
+  )
 
   applied-back : (k : K) (d : ℕ) (o : Option B) → IsWithin window d → RunsApplied ys found k d o → RunsApplied xs found k d o
   applied-back k d (Some b) within applied = ⊎_elim
       (λ right. inl right)
       (λ left. inr (left.0, left.1, (same.same k d (Some b) within.from within.upto).1 left.2))
       applied
-  applied-back k d None within applied = (applied.0, ⊎_elim
-      (λ says. inl says)
-      (λ nothing. inr ((same.same k d None within.from within.upto).1 nothing))
-      applied.1)
+  applied-back k d None within applied = (
+    applied.0,
+    ⊎_elim
+        (λ says. inl says)
+        (λ nothing. inr ((same.same k d None within.from within.upto).1 nothing))
+        applied.1,
+  )
 
   turn-same : TurnInto window xs zs found → TurnInto window ys ws found
   turn-same turn = record {

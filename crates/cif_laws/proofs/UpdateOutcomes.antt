@@ -198,13 +198,16 @@ module _ (how : Waived) (max : ℕ) where
         refused = are-lines u old;
         all_waived = none;
       })
-      at (Some line) first = inr (line, record {
-        update = u;
-        spelled = spelled;
-        lines = lines u old;
-        refused = are-lines u old;
-        first = first;
-      })
+      at (Some line) first = inr (
+        line,
+        record {
+          update = u;
+          spelled = spelled;
+          lines = lines u old;
+          refused = are-lines u old;
+          first = first;
+        },
+      )
 
   all-outcomes : (old : PublishedParts) (bytes : List (List ℕ)) (us : List UpdateParts) → SpellUpdates max bytes us
       → ((new : PublishedParts) × (waived : List RefusedLine) × AreUpdatesDone how max old bytes new waived)
@@ -222,12 +225,16 @@ module _ (how : Waived) (max : ℕ) where
   pub outcome : (full : List ℕ) (old : PublishedParts) (bytes : List (List ℕ)) (us : List UpdateParts)
       → BytesSpellPublished all_codes max full old → SpellUpdates max bytes us → HasOutcome how max full bytes
   outcome full old bytes us spelled updates = ⊎_elim
-      (λ done. inl (published_text done.0, done.1, record {
-        old = old;
-        spelled = spelled;
-        new = done.0;
-        done = done.2;
-        text = refl;
-      }))
+      (λ done. inl (
+        published_text done.0,
+        done.1,
+        record {
+          old = old;
+          spelled = spelled;
+          new = done.0;
+          done = done.2;
+          text = refl;
+        },
+      ))
       (λ refused. inr (refused.0, record { old = old; spelled = spelled; refused = refused.1 }))
       (all-outcomes old bytes us updates)

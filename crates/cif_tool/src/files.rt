@@ -16,9 +16,11 @@ impl Files for ProcessFiles {
     ghost use Rattle.std.specs.Prelude.{None};
 
     type File = File;
+
     type Standard = StdinLock<'static>;
 
     ghost of_file = { λ _ _. None };
+
     ghost of_standard = { λ _. None };
 
     fn open(self, name: &str) -> io::Result<File> {

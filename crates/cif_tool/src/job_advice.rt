@@ -27,8 +27,14 @@ pub(crate) fn job_advice(
         verbosity: done.verbosity,
         job: done.job,
         output: done.output.get_ref(),
-        left: ReadInput { rt, input: done.left },
-        right: ReadInput { rt, input: done.right },
+        left: ReadInput {
+            rt,
+            input: done.left,
+        },
+        right: ReadInput {
+            rt,
+            input: done.right,
+        },
     };
     match answer {
         Ok(_) => job.add_answer(kept, &mut message),

@@ -59,7 +59,11 @@ impl ReadInput<'_, '_> {
 
     /// The same of the standard input.
     fn kept_line(&self, alloc: Global, number: u64) -> Option<LineAgain> {
-        let last = self.input.last.as_ref().and_then(|last| last.from_line(number));
+        let last = self
+            .input
+            .last
+            .as_ref()
+            .and_then(|last| last.from_line(number));
         match (last, number) {
             (Some(mut rest), _) => {
                 // More is known of a line that is too long, but how much depends on the reads.

@@ -1,7 +1,7 @@
 -- The job is done with the inputs of the request, and advice comes after it.
 use Rattle.cif_commands.proofs.Names.{inl, inr, refl, sym, ◌∙◌}
 use Rattle.cif_commands.proofs.OpenedInputs.{job-inputs-of}
-use Rattle.cif_commands.specs.InputLeft.{input_remaining}
+use Rattle.cif_commands.specs.{InputLeft.input_remaining, Job.names_of}
 use Rattle.cif_commands.proofs.program.Program.job_done.Goals as goal
 
 pub returns-then-not-helps : goal.returns-then-not-helps
@@ -14,7 +14,7 @@ returns-then-not-helps g c = (
     right_new = c.run_job-ended.new.right;
     inputs = job-inputs-of g.F.Files.of_standard g.F.Files.of_file
         (input_remaining g.F.Standard.Read.remaining g.F.File.Read.remaining g.F.Files.of_standard g.F.Files.of_file) _ _
-        c.opening-opening.ensures.files _ _ _ _ _ c.deref_mut.ensures.value c.deref_mut-2.ensures.value c.in_ok-inputs.ensures;
+        c.opening-opening.ensures.files (names_of c.args.request.now.inputs) _ _ _ _ c.deref_mut.ensures.value c.deref_mut-2.ensures.value c.in_ok-inputs.ensures;
     answered = c.run_job-ended.result.answer;
     answer = c.run_job-ended.ensures.answer;
     reads = c.run_job-ended.ensures.reads;
@@ -35,7 +35,7 @@ returns g c = (
     right_new = c.run_job-ended.new.right;
     inputs = job-inputs-of g.F.Files.of_standard g.F.Files.of_file
         (input_remaining g.F.Standard.Read.remaining g.F.File.Read.remaining g.F.Files.of_standard g.F.Files.of_file) _ _
-        c.opening-opening.ensures.files _ _ _ _ _ c.deref_mut.ensures.value c.deref_mut-2.ensures.value c.in_ok-inputs.ensures;
+        c.opening-opening.ensures.files (names_of c.args.request.now.inputs) _ _ _ _ c.deref_mut.ensures.value c.deref_mut-2.ensures.value c.in_ok-inputs.ensures;
     answered = c.run_job-ended.result.answer;
     answer = c.run_job-ended.ensures.answer;
     reads = c.run_job-ended.ensures.reads;

@@ -1,7 +1,7 @@
 -- The extract is prepared of the inputs of the request, and advice comes after it.
 use Rattle.cif_commands.proofs.Names.{inl, inr, refl, sym, ◌∙◌}
 use Rattle.cif_commands.proofs.OpenedInputs.{feed-inputs-of}
-use Rattle.cif_commands.specs.InputLeft.{input_remaining}
+use Rattle.cif_commands.specs.{InputLeft.input_remaining, Job.names_of}
 use Rattle.cif_commands.proofs.program.Program.prepared.Goals as goal
 
 pub returns-then-not-helps : goal.returns-then-not-helps
@@ -14,7 +14,8 @@ returns-then-not-helps g c = (
     source_new = c.run_prepare-ended.new.source;
     inputs = feed-inputs-of g.F.Files.of_standard g.F.Files.of_file
         (input_remaining g.F.Standard.Read.remaining g.F.File.Read.remaining g.F.Files.of_standard g.F.Files.of_file) _ _
-        c.opening-opening.ensures.files _ _ _ _ c.deref_mut.ensures.value c.in_ok-inputs.ensures;
+        c.opening-opening.ensures.files (names_of c.args.request.now.inputs) c.in_ok-inputs.inputs.holidays _ _
+        c.deref_mut.ensures.value c.in_ok-inputs.ensures;
     answered = c.run_prepare-ended.result.answer;
     kept = c.run_prepare-ended.result.kept;
     answer = c.run_prepare-ended.ensures.answer;
@@ -37,7 +38,8 @@ returns g c = (
     source_new = c.run_prepare-ended.new.source;
     inputs = feed-inputs-of g.F.Files.of_standard g.F.Files.of_file
         (input_remaining g.F.Standard.Read.remaining g.F.File.Read.remaining g.F.Files.of_standard g.F.Files.of_file) _ _
-        c.opening-opening.ensures.files _ _ _ _ c.deref_mut.ensures.value c.in_ok-inputs.ensures;
+        c.opening-opening.ensures.files (names_of c.args.request.now.inputs) c.in_ok-inputs.inputs.holidays _ _
+        c.deref_mut.ensures.value c.in_ok-inputs.ensures;
     answered = c.run_prepare-ended.result.answer;
     kept = c.run_prepare-ended.result.kept;
     answer = c.run_prepare-ended.ensures.answer;
