@@ -10,7 +10,7 @@ pub(crate) fn word_advice(rt: HostRuntime, fault: &JobFault) -> Vec<u8> {
     let alloc = rt.alloc();
     let mut message = Message::new(alloc);
     if let Ok(words) = words_of(rt) {
-        add_word_advice(rt, words.as_slice(), fault, message);
+        add_word_advice(rt, words.as_slice(), fault, &mut message);
     }
     message.into_text()
 }
@@ -43,7 +43,7 @@ fn add_word_advice(rt: HostRuntime, words: &[String], fault: &JobFault, message:
                 add_word(
                     word,
                     "must be a TIPLOC or a CRS code, such as EUSTON or EUS",
-                    &mut message,
+                    message,
                 );
             }
         }

@@ -20,7 +20,7 @@ pub mod PublicRows
 pub mod Riders
 mod RowLines
 mod RowsOfDifferences
-mod SameBoards
+pub mod SameBoards
 mod SameJourneys
 mod SameSchedules
 mod SameTables
