@@ -23,6 +23,7 @@ use std::io::Read;
 use std::mem::ManuallyDrop;
 
 /// What calls of the program stand in.
+#[derive(Clone, Copy)]
 pub struct Program<F, A> {
     pub alloc: Global,
     /// What opens the inputs.

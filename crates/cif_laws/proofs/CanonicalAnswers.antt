@@ -151,6 +151,7 @@ module _ (asked : Asked) (from to : List ℕ) (p : Pairs asked from to) where
 
   normalised-also : (form : Form) (text : List ℕ) (counts : Counts) → IsNormalised form asked MAX_LINES from text counts
       → IsNormalised form asked MAX_LINES to text counts
+  unfolding canonical-also
   normalised-also form text counts n =
       let same = from-narrowed n.meant n.accepted.spelled in record {
         meant = p.other;
@@ -174,6 +175,7 @@ module _ (job : TrainJob) (from to : List ℕ) (p : Pairs job.asked from to) whe
 
 module _ (output : CanonicalOutput) (job : CanonicalJob) (from to : List ℕ) (p : Pairs job.asked from to) where
   table-also : (text : List ℕ) (status : ℕ) → IsCanonicalAnswer output job from text status → IsCanonicalAnswer output job to text status
+  unfolding normalised-also canonical-also
   table-also text status a = record {
     canonical = a.canonical;
     counts = a.counts;
