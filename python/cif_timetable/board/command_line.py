@@ -25,7 +25,7 @@ PROGRAM = "cif-board"
 DEFAULT_ADDRESS = "127.0.0.1"
 DEFAULT_PORT = 8080
 THREADS = 8
-WITHOUT = "Flask and waitress are missing: `apt install python3-flask python3-waitress`, or `pip install 'cif-timetable[board]'`"
+WITHOUT = "Flask and waitress are missing: `apt install python3-flask python3-waitress`, or `pip install '.[board]'` in a clone"
 
 ABOUT = """\
 Shows the database of cif-sql on pages for a browser on this machine: departures
